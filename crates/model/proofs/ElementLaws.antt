@@ -1,0 +1,65 @@
+-- Laws of specs/Elements: the allowed values as numbers. Assumes nothing.
+use Prim.Native.Nat.{ℕ, _≤_}
+use mathlib.Core.Path.{_≡_, refl}
+use mathlib.Core.Bool.{true, _&&_}
+use mathlib.Core.List.{List}
+use mathlib.Core.Logic.{_↔_}
+use lib.Dec.{leb}
+use borrow.Author.Tests.{leb-true}
+use Rattle.model.specs.declared.elements.Period.{Period}
+use Rattle.model.specs.declared.elements.Period.the-variants.{Once, Every}
+use Rattle.model.specs.declared.elements.Element.{Element}
+use Rattle.model.specs.Over.{Each}
+use Rattle.model.specs.Elements.{mostPeriod, mostOffset, mostDeadline, mostCost, within, isPeriod, isOffset, isDeadline, isCost, isLegal, AllLegal}
+use Rattle.model.proofs.Cases.{and-left, and-right}
+use Rattle.model.proofs.OverLaws.{all-each, each-map}
+
+abbrev pub Within : ℕ → ℕ → ℕ → Type 0
+Within low high x = (low ≤ x) × (x ≤ high)
+
+abbrev pub Runs : Period → Type 0
+Runs Once = Unit {0}
+Runs (Every p) = Within 1 mostPeriod p
+
+pub record Legal (e : Element) : Type 0 where
+  pub period : Runs (e .period)
+  pub offset : Within 0 mostOffset (e .offset)
+  pub deadline : Within 1 mostDeadline (e .deadline)
+  pub cost : Within 1 mostCost (e .cost)
+
+pub within-is : (low high x : ℕ) → within low high x ≡ true → Within low high x
+unfolding within
+within-is low high x h = (leb-true low x (and-left (leb low x) (leb x high) h), leb-true x high (and-right (leb low x) (leb x high) h))
+
+period-is : (q : Period) → isPeriod q ≡ true → Runs q
+unfolding isPeriod
+period-is Once h = tt
+period-is (Every p) h = within-is 1 mostPeriod p h
+
+-- a legal element's four tests, and back
+pub legal-parts : (e : Element) → (isLegal e ≡ true) ↔ ((isPeriod (e .period) ≡ true) × (isOffset (e .offset) ≡ true) × (isDeadline (e .deadline) ≡ true) × (isCost (e .cost) ≡ true))
+unfolding isLegal
+legal-parts e =
+    let p = isPeriod (e .period) in
+    let a = isOffset (e .offset) in
+    let d = isDeadline (e .deadline) in
+    let c = isCost (e .cost) in (
+      λ h. let pad = and-left (p && a && d) c h in
+          let pa = and-left (p && a) d pad in
+          (and-left p a pa, and-right p a pa, and-right (p && a) d pad, and-right (p && a && d) c h),
+      λ h. rw (h .0, h .1, h .2, h .3),
+    )
+
+pub legal-is : (e : Element) → isLegal e ≡ true → Legal e
+unfolding isOffset isDeadline isCost
+legal-is e h =
+    let q = legal-parts e .0 h in
+    record {
+      period = period-is (e .period) (q .0);
+      offset = within-is 0 mostOffset (e .offset) (q .1);
+      deadline = within-is 1 mostDeadline (e .deadline) (q .2);
+      cost = within-is 1 mostCost (e .cost) (q .3);
+    }
+
+pub all-legal : (s : List Element) → AllLegal s → Each s Legal
+all-legal s h = each-map s legal-is (all-each s isLegal h)

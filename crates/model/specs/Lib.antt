@@ -1,0 +1,9 @@
+pub mod Number
+pub mod Over
+pub mod Elements
+pub mod Demand
+pub mod Answers
+pub mod ExactTest
+pub mod Superposition
+pub mod TurnedAway
+pub mod Sums

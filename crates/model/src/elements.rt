@@ -1,0 +1,56 @@
+// Document 01, "Elements": the element, the set in memory, and the limits of its table.
+ghost use mathlib.Core.Path.{_≡_};
+ghost use Rattle.model.specs.Elements.{filler as the-filler, emptySet};
+
+pub const MOST_PERIOD: u32 = 16_777_216;
+
+pub const MOST_OFFSET: u32 = 16_777_216;
+
+pub const MOST_DEADLINE: u32 = 16_777_216;
+
+pub const MOST_COST: u32 = 16_777_216;
+
+pub const PLACES: usize = 128;
+
+pub const MOST_HYPERPERIOD: u64 = 1_073_741_824;
+
+pub const MOST_K: u32 = 255;
+
+// A single event comes once. Once stands first: what a table is read as past its end is then the filler.
+pub enum Period {
+    Once,
+    Every(u32),
+}
+
+pub struct Element {
+    pub period: Period,
+    pub offset: u32,
+    pub deadline: u32,
+    pub cost: u32,
+}
+
+pub struct TaskSet {
+    pub count: usize,
+    pub table: [Element; PLACES],
+}
+
+// What stands past the count: a single event of all zeros.
+pub fn filler() -> Element
+    ensures { λ r. ⌜ r ≡ the-filler ⌝ }
+{
+    Element {
+        period: Period::Once,
+        offset: 0,
+        deadline: 0,
+        cost: 0,
+    }
+}
+
+pub fn empty_set() -> TaskSet
+    ensures { λ r. ⌜ r ≡ emptySet ⌝ }
+{
+    TaskSet {
+        count: 0,
+        table: [filler(); PLACES],
+    }
+}

@@ -1,0 +1,132 @@
+-- With load at most one the exact test says overloaded exactly when some length has more demand than length, and shows the smallest. Assumes nothing.
+use Prim.Native.Nat.{ℕ, zero, suc, _+_, _-_, _≤_, _<_}
+use mathlib.Core.Path.{_≡_, refl, ap, sym, _∙_}
+use mathlib.Core.Bool.{true, false}
+use mathlib.Core.List.{List}
+use mathlib.Core.Logic.{_⊎_, inl, inr, ⊎-elim, _↔_}
+use native.Mathlib.Omega.{arith}
+use Rattle.model.specs.declared.elements.Element.{Element}
+use Rattle.model.specs.declared.answers.Verdict.{Verdict}
+use Rattle.model.specs.declared.answers.Verdict.the-variants.{Passes, Overrun}
+use Rattle.model.specs.Number.{least, howMany}
+use Rattle.model.specs.Elements.{AllLegal}
+use Rattle.model.specs.Demand.{F, H, D, Q, isTest}
+use Rattle.model.specs.Answers.{Values, values}
+use Rattle.model.specs.ExactTest.{isOverrun, comparing, exact}
+use Rattle.model.proofs.Cases.{test, clash, lt-or-le}
+use Rattle.model.proofs.NumberLaws.{None, Least, least-is}
+use Rattle.theory.proofs.ExactTestLaws.{overrun, no-overrun, is-overrun, FirstFailing, Compared, compared, exact-within}
+use Rattle.theory.proofs.HyperperiodIsLeast.{hyperperiod-is-positive}
+use Rattle.theory.proofs.DemandRepeats.{demand-repeats}
+use Rattle.theory.proofs.DemandRests.{demand-at-zero, demand-rests}
+
+-- some length, at least 1 and of any size, has more demand than length
+abbrev pub Overloaded : List Element → Type 0
+Overloaded s = (I : ℕ) × (1 ≤ I) × (I < D s I)
+
+-- I is the smallest such length
+pub record IsSmallest (s : List Element) (I : ℕ) : Type 0 where
+  pub positive : 1 ≤ I
+  pub over : I < D s I
+  pub none : (J : ℕ) → J < I → D s J ≤ J
+
+module _ (s : List Element) (legal : AllLegal s) where
+  smallest-positive : (I : ℕ) → I < D s I → 1 ≤ I
+  smallest-positive zero o = absurd (omega (arith, demand-at-zero s legal))
+  smallest-positive (suc I) o = omega arith
+
+  -- THE SMALLEST OVERRUN is a test length: at another, demand is that of the length before
+  smallest-tests : (I : ℕ) → IsSmallest s I → isTest s I ≡ true
+  smallest-tests zero w = absurd (omega (arith, w .positive))
+  smallest-tests (suc I) w =
+      ⊎-elim (λ t. t) (λ t. absurd (omega (arith, demand-rests s I legal t, w .over, w .none I (omega arith)))) (test (isTest s (suc I)))
+
+  -- it is below F + H: a hyperperiod earlier demand is less by Q, which is at most H
+  smallest-below : (I : ℕ) → Q s ≤ H s → IsSmallest s I → I < F s + H s
+  smallest-below I q w = ⊎-elim (λ l. l) (λ l. absurd (low l)) (lt-or-le I (F s + H s))
+    where
+      low : F s + H s ≤ I → ⊥
+      low l =
+          let p = hyperperiod-is-positive s legal in
+          let d = demand-repeats s (I - H s) legal (omega arith) in
+          let e : I - H s + H s ≡ I = omega arith in
+          let d₁ = rw e at d in
+          omega (arith, w .over, w .none (I - H s) (omega arith))
+
+  -- where there is an overrun there is a smallest
+  smallest-of : (I : ℕ) → I < D s I → (J : ℕ) × (J ≤ I) × IsSmallest s J
+  smallest-of I o = go _ (least-is (isOverrun s) (suc I))
+    where
+      go : (J : ℕ) → Least (isOverrun s) (suc I) J → (J : ℕ) × (J ≤ I) × IsSmallest s J
+      go J (inl w) = (
+        J,
+        omega (arith, w .0),
+        record { positive = smallest-positive J (overrun s J (w .1 .passes)); over = overrun s J (w .1 .passes); none = λ i l. no-overrun s i (w .1 .none i l) },
+      )
+      go J (inr w) = absurd (clash (is-overrun s I o) (w .1 I (omega arith)))
+
+module _ (s : List Element) (legal : AllLegal s) (load : Q s ≤ H s) where
+  -- what the exact test finds: the smallest overrun, or none of any size
+  abbrev Found : Verdict → Type 0
+  Found v =
+      ((I : ℕ) × IsSmallest s I × (v ≡ Overrun I (D s I) (howMany (isTest s) (suc I)))) ⊎
+      (((I : ℕ) → D s I ≤ I) × (v ≡ Passes (howMany (isTest s) (F s + H s))))
+
+  found : Found (exact s)
+  found = rw (exact-within s load) (go (compared s Overrun (isTest s) (isOverrun s) (F s + H s)))
+    where
+      go : Compared s Overrun (isTest s) (isOverrun s) (F s + H s) (comparing s Overrun (isTest s) (isOverrun s) (F s + H s)) → Found (comparing s Overrun (isTest s) (isOverrun s) (F s + H s))
+      go (inl w) =
+          let I = w .0 in
+          let o = overrun s I (w .1 .failure) in
+          inl (
+            I,
+            record {
+              positive = smallest-positive s legal I o;
+              over = o;
+              none = λ J l. ⊎-elim
+                  (λ b. let x = smallest-of s legal J b in
+                  absurd (clash (is-overrun s (x .0) (x .2 .over)) (w .1 .before (x .0) (omega (arith, x .1)) (smallest-tests s legal (x .0) (x .2)))))
+                  (λ b. b)
+                  (lt-or-le J (D s J));
+            },
+            w .2,
+          )
+      go (inr w) = inr (
+        λ I. ⊎-elim
+            (λ b. let x = smallest-of s legal I b in
+            absurd (clash (is-overrun s (x .0) (x .2 .over)) (w .0 (x .0) (smallest-below s legal (x .0) load (x .2)) (smallest-tests s legal (x .0) (x .2)))))
+            (λ b. b)
+            (lt-or-le I (D s I)),
+        w .1,
+      )
+
+  -- what verdict 1 shows
+  pub record ShowsTheSmallest (v : Values) : Type 0 where
+    pub smallest : IsSmallest s (v .interval)
+    pub demand : v .demand ≡ D s (v .interval)
+    pub count : v .count ≡ howMany (isTest s) (suc (v .interval))
+
+  overloaded-when : (v : Verdict) → Found v → (values v .verdict ≡ 1) ↔ Overloaded s
+  overloaded-when v (inl w) = (λ e. (w .0, w .1 .positive, w .1 .over), λ o. rw (w .2))
+  overloaded-when v (inr w) = (λ e. absurd (omega (arith, rw (w .1) at e)), λ o. absurd (omega (arith, w .0 (o .0), o .2)))
+
+  smallest-when : (v : Verdict) → Found v → values v .verdict ≡ 1 → ShowsTheSmallest (values v)
+  smallest-when v (inl w) e = rw (w .2) (record { smallest = w .1; demand = refl; count = refl })
+  smallest-when v (inr w) e = absurd (omega (arith, rw (w .1) at e))
+
+  passes-when : (v : Verdict) → Found v → (Overloaded s → ⊥) → v ≡ Passes (howMany (isTest s) (F s + H s))
+  passes-when v (inl w) n = absurd (n (w .0, w .1 .positive, w .1 .over))
+  passes-when v (inr w) n = w .1
+
+  -- THEOREM 2: "the exact answer's verdict is 1 exactly when some length of any size, I at least 1, has D(I) > I"
+  pub overloaded-exactly-when : (values (exact s) .verdict ≡ 1) ↔ Overloaded s
+  overloaded-exactly-when = overloaded-when (exact s) found
+
+  -- "its interval is the smallest such length; its demand is D there"
+  pub shows-the-smallest : values (exact s) .verdict ≡ 1 → ShowsTheSmallest (values (exact s))
+  shows-the-smallest = smallest-when (exact s) found
+
+  -- "otherwise it is 0", and every test length below F + H was compared
+  pub otherwise-passes : (Overloaded s → ⊥) → exact s ≡ Passes (howMany (isTest s) (F s + H s))
+  otherwise-passes = passes-when (exact s) found

@@ -1,0 +1,17 @@
+pub mod DemandLaws
+pub mod ExactTestLaws
+pub mod SuperpositionLaws
+pub mod HyperperiodIsLeast
+pub mod TestLengthsAre
+pub mod DemandRepeats
+pub mod DemandRises
+pub mod DemandRests
+pub mod OverloadShowsTheFirst
+pub mod ExactShowsTheSmallest
+pub mod SuperpositionAnswers
+pub mod SuperpositionIsSafe
+pub mod SuperpositionIsClose
+pub mod SuperpositionIsShort
+pub mod NothingPastTheCount
+pub mod StarredSums
+pub mod TakenSetsAreLegal

@@ -1,0 +1,70 @@
+-- With load above one the verdict is 2: it shows an overrun, the first among F, F + H, F + 2H and so on. Assumes nothing.
+use Prim.Native.Nat.{ℕ, suc, _+_, _*_, _≤_, _<_}
+use mathlib.Core.Path.{_≡_, refl, ap}
+use mathlib.Core.List.{List}
+use mathlib.Core.Logic.{inl, inr, ⊎-elim}
+use native.Mathlib.Omega.{arith}
+use native.Mathlib.Nat.{mul-le-mul-left, mul-le-mul-right}
+use Rattle.model.specs.declared.elements.Element.{Element}
+use Rattle.model.specs.declared.answers.Verdict.{Verdict}
+use Rattle.model.specs.Number.{least}
+use Rattle.model.specs.Elements.{AllLegal}
+use Rattle.model.specs.Demand.{F, H, D, Q}
+use Rattle.model.specs.Answers.{Values, values}
+use Rattle.model.specs.ExactTest.{isOverrun, multiple, overloadAt, overload, exact}
+use Rattle.model.specs.Superposition.{superposition}
+use Rattle.model.proofs.Cases.{lt-or-le}
+use Rattle.model.proofs.NumberLaws.{Least, least-is}
+use Rattle.theory.proofs.ExactTestLaws.{overrun, no-overrun, exact-above}
+use Rattle.theory.proofs.SuperpositionLaws.{superposition-above}
+use Rattle.theory.proofs.DemandRepeats.{demand-at-multiple}
+
+-- what verdict 2 shows
+pub record ShowsTheFirst (s : List Element) (v : Values) : Type 0 where
+  pub verdict : v .verdict ≡ 2
+  pub among : (j : ℕ) × (v .interval ≡ F s + j * H s)
+  pub over : v .interval < D s (v .interval)
+  pub first : (j : ℕ) → F s + j * H s < v .interval → D s (F s + j * H s) ≤ F s + j * H s
+  pub demand : v .demand ≡ D s (v .interval)
+  pub count : v .count ≡ 0
+
+module _ (s : List Element) where
+  -- an earlier multiple is an earlier j
+  earlier : (i j : ℕ) → multiple s j < multiple s i → j < i
+  unfolding multiple
+  earlier i j h = ⊎-elim (λ l. l) (λ l. absurd (omega (arith, mul-le-mul-right (H s) l))) (lt-or-le j i)
+
+  -- F + (F + 1) H is an overrun
+  last-over : AllLegal s → H s < Q s → multiple s (F s + 1) < D s (multiple s (F s + 1))
+  unfolding multiple
+  last-over legal q = omega (arith, demand-at-multiple s (F s + 1) legal, mul-le-mul-left (F s + 1) q)
+
+  shows : AllLegal s → H s < Q s → ShowsTheFirst s (values (overload s))
+  unfolding overload overloadAt multiple
+  shows legal q = go _ (least-is (λ j. isOverrun s (multiple s j)) (F s + 1))
+    where
+      go : (i : ℕ) → Least (λ j. isOverrun s (multiple s j)) (F s + 1) i → ShowsTheFirst s (record { verdict = 2; interval = multiple s i; demand = D s (multiple s i); count = 0 })
+      go i (inl w) = record {
+        verdict = refl;
+        among = (i, refl);
+        over = overrun s _ (w .1 .passes);
+        first = λ j l. no-overrun s _ (w .1 .none j (earlier i j l));
+        demand = refl;
+        count = refl;
+      }
+      go i (inr w) = record {
+        verdict = refl;
+        among = (i, refl);
+        over = rw (w .0) (last-over legal q);
+        first = λ j l. no-overrun s _ (w .1 j (omega (arith, earlier i j l)));
+        demand = refl;
+        count = refl;
+      }
+
+  -- THEOREM 2, with Q above H: "the interval shown by verdict 2 is an overrun, is among F, F + H, F + 2H, .., and is the first of these"
+  pub exact-shows-the-first : AllLegal s → H s < Q s → ShowsTheFirst s (values (exact s))
+  exact-shows-the-first legal q = rw (exact-above s q) (shows legal q)
+
+  -- superposition answers the same
+  pub superposition-shows-the-first : (k : ℕ) → AllLegal s → H s < Q s → ShowsTheFirst s (values (superposition k s))
+  superposition-shows-the-first k legal q = rw (superposition-above k s q) (shows legal q)
