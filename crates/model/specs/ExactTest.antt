@@ -21,29 +21,38 @@ multiple s j = F s + j * H s
 unfoldable pub overloadAt : List Element → ℕ
 overloadAt s = multiple s (least (λ j. isOverrun s (multiple s j)) (F s + 1))
 
--- "If Q > H the verdict is 2. [..] Its demand is D there; its count is 0."
+-- verdict 2: "its demand is D there; its count is 0"
 unfoldable pub overload : List Element → Verdict
 overload s = LoadAboveOne (overloadAt s) (D s (overloadAt s))
 
--- COMPARING LENGTHS, in either test: those below end that are visited, in rising order, up to the first that fails.
--- The first that fails; end where none does
-unfoldable pub failing : (ℕ → Bool) → (ℕ → Bool) → ℕ → ℕ
-failing visited fails end = least (λ I. visited I && fails I) end
+-- THE LENGTHS THAT A TEST COMPARES: those below the end that are visited, "in rising order", up to the first that fails
+pub record Lengths : Type 0 where
+  pub visited : ℕ → Bool
+  pub fails : ℕ → Bool
+  pub end : ℕ
+
+-- the first that fails; the end where none does
+unfoldable pub failing : Lengths → ℕ
+failing c = least (λ I. c .visited I && c .fails I) (c .end)
 
 -- the visited lengths below this are compared, "the failing one included"
-unfoldable pub stop : (ℕ → Bool) → (ℕ → Bool) → ℕ → ℕ
-stop visited fails end = min (suc (failing visited fails end)) end
+unfoldable pub stop : Lengths → ℕ
+stop c = min (suc (failing c)) (c .end)
 
--- the verdict for the first that fails, from that I, D(I) and the count; "otherwise it is 0". "The count is of distinct lengths compared."
-unfoldable pub comparing : List Element → (ℕ → ℕ → ℕ → Verdict) → (ℕ → Bool) → (ℕ → Bool) → ℕ → Verdict
-comparing s shown visited fails end =
-    let I = failing visited fails end in
-    let count = howMany visited (stop visited fails end) in
-    cond (ltb I end) (shown I (D s I) count) (Passes count)
+-- "At the first with D(I) > I" the verdict that is shown, "with that I and D(I). Otherwise it is 0 [..]. The count is of distinct lengths compared."
+unfoldable pub comparing : List Element → (ℕ → ℕ → ℕ → Verdict) → Lengths → Verdict
+comparing s shown c =
+    let I = failing c in
+    let count = howMany (c .visited) (stop c) in
+    cond (ltb I (c .end)) (shown I (D s I) count) (Passes count)
+
+-- "If Q > H the verdict is 2"; else the other
+unfoldable pub byLoad : List Element → Verdict → Verdict
+byLoad s other = let above = overload s in cond (ltb (H s) (Q s)) above other
 
 -- "If Q is at most H, the distinct test lengths below F + H are compared in rising order. At the first with D(I) > I the verdict is 1."
+abbrev pub exactLengths : List Element → Lengths
+exactLengths s = record { visited = isTest s; fails = isOverrun s; end = F s + H s }
+
 unfoldable pub exact : List Element → Verdict
-exact s =
-    let above = overload s in
-    let within = comparing s Overrun (isTest s) (isOverrun s) (F s + H s) in
-    cond (ltb (H s) (Q s)) above within
+exact s = let compared = comparing s Overrun (exactLengths s) in byLoad s compared

@@ -9,8 +9,8 @@ use Rattle.model.specs.declared.elements.Element.{Element}
 use Rattle.model.specs.declared.answers.Verdict.{Verdict}
 use Rattle.model.specs.declared.answers.Verdict.the-variants.{NotShown}
 use Rattle.model.specs.Over.{sumOver, largestOver, someOver}
-use Rattle.model.specs.Demand.{f, H, demandOf, Q, isTestOf}
-use Rattle.model.specs.ExactTest.{overload, comparing}
+use Rattle.model.specs.Demand.{f, H, demandOf, isTestOf}
+use Rattle.model.specs.ExactTest.{Lengths, comparing, byLoad}
 
 -- from f to m
 abbrev pub exactPart : Period → ℕ → ℕ
@@ -50,10 +50,10 @@ lengthsOf k (Every p) = k
 unfoldable pub budget : ℕ → List Element → ℕ
 budget k s = sumOver s (λ e. lengthsOf k (e .period))
 
--- "If Q > H the answer is the exact test's verdict 2, count 0. Otherwise the distinct lengths [..] are compared in rising order. At the first
--- with D'(I) > I the verdict is 3, 'not shown', with that I and the exact D(I)." All of them are at most the largest m
+-- "Otherwise the distinct lengths [..] are compared in rising order. At the first with D'(I) > I the verdict is 3." None is above the largest m
+abbrev pub superpositionLengths : ℕ → List Element → Lengths
+superpositionLengths k s = record { visited = isVisited k s; fails = isAbove k s; end = suc (largestOver s (m k)) }
+
+-- "If Q > H the answer is the exact test's verdict 2, count 0. Otherwise [..] 3, 'not shown', with that I and the exact D(I)."
 unfoldable pub superposition : ℕ → List Element → Verdict
-superposition k s =
-    let above = overload s in
-    let within = comparing s NotShown (isVisited k s) (isAbove k s) (suc (largestOver s (m k))) in
-    cond (ltb (H s) (Q s)) above within
+superposition k s = let compared = comparing s NotShown (superpositionLengths k s) in byLoad s compared

@@ -1,5 +1,5 @@
 -- Document 01, "What is turned away": the refusals of an analysis of a set in memory, and its answer.
-use Prim.Native.Nat.{ℕ, suc, _+_, _*_}
+use Prim.Native.Nat.{ℕ, suc, _*_}
 use mathlib.Core.Bool.{Bool, _&&_, _||_, not, cond}
 use mathlib.Core.List.{List, [], _∷_}
 use lib.Dec.{leb, ltb}
@@ -13,11 +13,10 @@ use Rattle.model.specs.declared.answers.Verdict.{Verdict}
 use Rattle.model.specs.declared.answers.Answer.{Answer}
 use Rattle.model.specs.declared.answers.Answer.the-variants.{Refused, Given}
 use Rattle.model.specs.Number.{least, someBelow}
-use Rattle.model.specs.Over.{largestOver}
 use Rattle.model.specs.Elements.{places, mostH, mostK, within, isPeriod, isOffset, isDeadline, isCost, counted}
-use Rattle.model.specs.Demand.{F, H, D, Q, isTest}
-use Rattle.model.specs.ExactTest.{isOverrun, overloadAt, stop, exact}
-use Rattle.model.specs.Superposition.{m, HD', isAbove, isVisited, superposition}
+use Rattle.model.specs.Demand.{H, D, Q}
+use Rattle.model.specs.ExactTest.{overloadAt, Lengths, stop, exactLengths, exact}
+use Rattle.model.specs.Superposition.{HD', superpositionLengths, superposition}
 
 infixr 20 _then_
 -- turned away by this number at this place, unless the test passes
@@ -65,26 +64,19 @@ isLarge x = ltb 18446744073709551615 x
 unfoldable pub isLargeAt : List Element → ℕ → Bool
 isLargeAt s I = isLarge I || isLarge (D s I)
 
--- "for verdict 2, a length up to the interval shown"
-unfoldable pub overloadIsLarge : List Element → Bool
-overloadIsLarge s = someBelow (isLargeAt s) (suc (overloadAt s))
+-- "Q, or at a length that the test compares (for verdict 2, a length up to the interval shown)" a number that the test has there
+unfoldable pub meetsLarge : List Element → Lengths → (ℕ → Bool) → Bool
+meetsLarge s c isLargeThere =
+    let above = someBelow (isLargeAt s) (suc (overloadAt s)) in
+    let compared = someBelow (λ I. c .visited I && isLargeThere I) (stop c) in
+    isLarge (Q s) || cond (ltb (H s) (Q s)) above compared
 
--- "Q, or at a length that the test compares [..] I or D(I)"
 unfoldable pub exactIsLarge : List Element → Bool
-exactIsLarge s =
-    let above = overloadIsLarge s in
-    let within = someBelow (λ I. isTest s I && isLargeAt s I) (stop (isTest s) (isOverrun s) (F s + H s)) in
-    isLarge (Q s) || cond (ltb (H s) (Q s)) above within
+exactIsLarge s = meetsLarge s (exactLengths s) (isLargeAt s)
 
 -- "or, in superposition with Q at most H, H times I or H times D'(I)"
-unfoldable pub isLargeScaledAt : ℕ → List Element → ℕ → Bool
-isLargeScaledAt k s I = isLargeAt s I || isLarge (H s * I) || isLarge (HD' k s I)
-
 unfoldable pub superpositionIsLarge : ℕ → List Element → Bool
-superpositionIsLarge k s =
-    let above = overloadIsLarge s in
-    let within = someBelow (λ I. isVisited k s I && isLargeScaledAt k s I) (stop (isVisited k s) (isAbove k s) (suc (largestOver s (m k)))) in
-    isLarge (Q s) || cond (ltb (H s) (Q s)) above within
+superpositionIsLarge k s = meetsLarge s (superpositionLengths k s) (λ I. isLargeAt s I || isLarge (H s * I) || isLarge (HD' k s I))
 
 -- a refusal, or the verdict
 abbrev pub answered : Check → Verdict → Answer

@@ -12,10 +12,10 @@ use Rattle.model.specs.Number.{least, howMany}
 use Rattle.model.specs.Elements.{AllLegal}
 use Rattle.model.specs.Demand.{F, H, D, Q, isTest}
 use Rattle.model.specs.Answers.{Values, values}
-use Rattle.model.specs.ExactTest.{isOverrun, comparing, exact}
+use Rattle.model.specs.ExactTest.{isOverrun, comparing, byLoad, exactLengths, exact}
 use Rattle.model.proofs.Cases.{test, clash, lt-or-le}
 use Rattle.model.proofs.NumberLaws.{None, Least, least-is}
-use Rattle.theory.proofs.ExactTestLaws.{overrun, no-overrun, is-overrun, FirstFailing, Compared, compared, exact-within}
+use Rattle.theory.proofs.ExactTestLaws.{overrun, no-overrun, is-overrun, FirstFailing, Compared, compared, load-at-most}
 use Rattle.theory.proofs.HyperperiodIsLeast.{hyperperiod-is-positive}
 use Rattle.theory.proofs.DemandRepeats.{demand-repeats}
 use Rattle.theory.proofs.DemandRests.{demand-at-zero, demand-rests}
@@ -73,9 +73,10 @@ module _ (s : List Element) (legal : AllLegal s) (load : Q s ≤ H s) where
       (((I : ℕ) → D s I ≤ I) × (v ≡ Passes (howMany (isTest s) (F s + H s))))
 
   found : Found (exact s)
-  found = rw (exact-within s load) (go (compared s Overrun (isTest s) (isOverrun s) (F s + H s)))
+  unfolding exact
+  found = rw (load-at-most s (comparing s Overrun (exactLengths s)) load) (go (compared s Overrun (exactLengths s)))
     where
-      go : Compared s Overrun (isTest s) (isOverrun s) (F s + H s) (comparing s Overrun (isTest s) (isOverrun s) (F s + H s)) → Found (comparing s Overrun (isTest s) (isOverrun s) (F s + H s))
+      go : Compared s Overrun (exactLengths s) (comparing s Overrun (exactLengths s)) → Found (comparing s Overrun (exactLengths s))
       go (inl w) =
           let I = w .0 in
           let o = overrun s I (w .1 .failure) in

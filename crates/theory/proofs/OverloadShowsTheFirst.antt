@@ -6,17 +6,16 @@ use mathlib.Core.Logic.{inl, inr, ⊎-elim}
 use native.Mathlib.Omega.{arith}
 use native.Mathlib.Nat.{mul-le-mul-left, mul-le-mul-right}
 use Rattle.model.specs.declared.elements.Element.{Element}
-use Rattle.model.specs.declared.answers.Verdict.{Verdict}
+use Rattle.model.specs.declared.answers.Verdict.the-variants.{Overrun, NotShown}
 use Rattle.model.specs.Number.{least}
 use Rattle.model.specs.Elements.{AllLegal}
 use Rattle.model.specs.Demand.{F, H, D, Q}
 use Rattle.model.specs.Answers.{Values, values}
-use Rattle.model.specs.ExactTest.{isOverrun, multiple, overloadAt, overload, exact}
-use Rattle.model.specs.Superposition.{superposition}
+use Rattle.model.specs.ExactTest.{isOverrun, multiple, overloadAt, overload, comparing, byLoad, exactLengths, exact}
+use Rattle.model.specs.Superposition.{superpositionLengths, superposition}
 use Rattle.model.proofs.Cases.{lt-or-le}
 use Rattle.model.proofs.NumberLaws.{Least, least-is}
-use Rattle.theory.proofs.ExactTestLaws.{overrun, no-overrun, exact-above}
-use Rattle.theory.proofs.SuperpositionLaws.{superposition-above}
+use Rattle.theory.proofs.ExactTestLaws.{overrun, no-overrun, load-above}
 use Rattle.theory.proofs.DemandRepeats.{demand-at-multiple}
 
 -- what verdict 2 shows
@@ -63,8 +62,10 @@ module _ (s : List Element) where
 
   -- THEOREM 2, with Q above H: "the interval shown by verdict 2 is an overrun, is among F, F + H, F + 2H, .., and is the first of these"
   pub exact-shows-the-first : AllLegal s → H s < Q s → ShowsTheFirst s (values (exact s))
-  exact-shows-the-first legal q = rw (exact-above s q) (shows legal q)
+  unfolding exact
+  exact-shows-the-first legal q = rw (load-above s (comparing s Overrun (exactLengths s)) q) (shows legal q)
 
   -- superposition answers the same
   pub superposition-shows-the-first : (k : ℕ) → AllLegal s → H s < Q s → ShowsTheFirst s (values (superposition k s))
-  superposition-shows-the-first k legal q = rw (superposition-above k s q) (shows legal q)
+  unfolding superposition
+  superposition-shows-the-first k legal q = rw (load-above s (comparing s NotShown (superpositionLengths k s)) q) (shows legal q)

@@ -15,13 +15,13 @@ use Rattle.model.specs.Number.{howMany}
 use Rattle.model.specs.Over.{largestOver, someOver}
 use Rattle.model.specs.Demand.{H, D, Q, isTestOf}
 use Rattle.model.specs.Answers.{Values, values}
-use Rattle.model.specs.ExactTest.{comparing}
-use Rattle.model.specs.Superposition.{m, HD', isAbove, isVisited, superposition}
+use Rattle.model.specs.ExactTest.{comparing, byLoad}
+use Rattle.model.specs.Superposition.{m, HD', isVisited, superpositionLengths, superposition}
 use Rattle.model.proofs.Cases.{and-right}
 use Rattle.model.proofs.NumberLaws.{howMany-all}
 use Rattle.model.proofs.OverLaws.{some-largest}
-use Rattle.theory.proofs.ExactTestLaws.{FirstFailing, AllHold, Compared, compared}
-use Rattle.theory.proofs.SuperpositionLaws.{is-above, not-above, superposition-within}
+use Rattle.theory.proofs.ExactTestLaws.{FirstFailing, Compared, compared, load-at-most}
+use Rattle.theory.proofs.SuperpositionLaws.{is-above, not-above}
 
 module _ (k : ℕ) (s : List Element) where
   -- verdict 3
@@ -46,7 +46,7 @@ module _ (k : ℕ) (s : List Element) where
   visited-below I t =
       omega (arith, some-largest s (λ e. isTestOf e I && leb I (m k e)) (m k) I (λ e p. leb-true I (m k e) (and-right (isTestOf e I) (leb I (m k e)) p)) t)
 
-  answers-by : (v : Verdict) → Compared s NotShown (isVisited k s) (isAbove k s) (suc (largestOver s (m k))) v → HoldsBack (values v) ⊎ Accepts (values v)
+  answers-by : (v : Verdict) → Compared s NotShown (superpositionLengths k s) v → HoldsBack (values v) ⊎ Accepts (values v)
   answers-by v (inl w) = rw (w .2) (inl (record {
     verdict = refl;
     visited = w .1 .visit;
@@ -65,5 +65,6 @@ module _ (k : ℕ) (s : List Element) where
 
   -- THEOREM 3: "the count is the number of distinct visited lengths up to and including the last compared", in both cases
   pub superposition-answers : Q s ≤ H s → HoldsBack (values (superposition k s)) ⊎ Accepts (values (superposition k s))
+  unfolding superposition
   superposition-answers load =
-      answers-by (superposition k s) (rw (superposition-within k s load) (compared s NotShown (isVisited k s) (isAbove k s) (suc (largestOver s (m k)))))
+      rw (load-at-most s (comparing s NotShown (superpositionLengths k s)) load) (answers-by _ (compared s NotShown (superpositionLengths k s)))

@@ -1,4 +1,4 @@
--- Laws of specs/Superposition: one element's approximated demand, scaled with h; the two loads. Assumes nothing.
+-- Laws of specs/Superposition: one element's approximated demand, scaled with h. Assumes nothing.
 use Prim.Native.Nat.{ℕ, zero, suc, _+_, _*_, _-_, _/_, _≤_, _<_}
 use mathlib.Core.Path.{_≡_, refl, ap, sym, _∙_}
 use mathlib.Core.Bool.{Bool, true, false, _&&_, cond, and-true}
@@ -11,11 +11,8 @@ use borrow.Author.Tests.{lt-ltb, le-ltb, le-leb, lt-leb, ltb-true, ltb-false}
 use Rattle.model.specs.declared.elements.Period.{Period}
 use Rattle.model.specs.declared.elements.Period.the-variants.{Once, Every}
 use Rattle.model.specs.declared.elements.Element.{Element}
-use Rattle.model.specs.declared.answers.Verdict.the-variants.{NotShown}
-use Rattle.model.specs.Over.{largestOver}
-use Rattle.model.specs.Demand.{f, H, dues, demandOf, turns, Q, isTestOf}
-use Rattle.model.specs.ExactTest.{overload, comparing}
-use Rattle.model.specs.Superposition.{exactPart, m, scaledBy, HD', isAbove, isVisited, superposition}
+use Rattle.model.specs.Demand.{f, H, dues, demandOf, turns, isTestOf}
+use Rattle.model.specs.Superposition.{exactPart, m, scaledBy, HD', isAbove}
 use Rattle.model.proofs.Cases.{lt-or-le}
 use Rattle.model.proofs.ElementLaws.{Runs, Legal}
 use Rattle.theory.proofs.DemandLaws.{Divides, late, demandOf-rests, demandOf-zero}
@@ -128,12 +125,3 @@ module _ (k : ℕ) (s : List Element) (I : ℕ) where
   pub not-above : isAbove k s I ≡ false → HD' k s I ≤ H s * I
   unfolding isAbove
   not-above t = ltb-false (H s * I) (HD' k s I) t
-
--- THE TWO LOADS
-pub superposition-above : (k : ℕ) (s : List Element) → H s < Q s → superposition k s ≡ overload s
-unfolding superposition
-superposition-above k s q = rw (lt-ltb (H s) (Q s) q)
-
-pub superposition-within : (k : ℕ) (s : List Element) → Q s ≤ H s → superposition k s ≡ comparing s NotShown (isVisited k s) (isAbove k s) (suc (largestOver s (m k)))
-unfolding superposition
-superposition-within k s q = rw (le-ltb (H s) (Q s) q)
