@@ -8,7 +8,7 @@ use native.Mathlib.Nat.{dvd-refl, dvd-zero, dvd-mod-iff, dvd-add-iff-right, mod-
 use lib.Dec.{ltb}
 use borrow.Author.Tests.{lt-ltb, le-ltb}
 use Rattle.model.specs.Number.{gcdIn, gcd, lcm, least, howMany}
-use Rattle.model.proofs.Cases.{test, clash, lt-or-le}
+use Rattle.model.proofs.Cases.{test, lt-or-le}
 
 -- THE LEAST COMMON MULTIPLE
 gcdIn-divides : (n a b : ℕ) → b ≤ n → (gcdIn n a b ∣ a) × (gcdIn n a b ∣ b)

@@ -6,7 +6,7 @@ use Rattle.model.specs.declared.elements.TaskSet.{TaskSet}
 use Rattle.model.specs.declared.answers.Verdict.{Verdict}
 use Rattle.model.specs.declared.answers.Verdict.the-variants.{Passes, Overrun, LoadAboveOne, NotShown}
 use Rattle.model.specs.Elements.{filler, emptySet}
-use Rattle.model.specs.Answers.{Values, values}
+use Rattle.model.specs.Answers.{values}
 
 pub filler-is-decided : (a b : Element) → a ≡ filler → b ≡ filler → a ≡ b
 filler-is-decided a b p q = p ∙ sym q

@@ -1,8 +1,5 @@
 -- THEOREM 5: the starred sums hold. Each but S1 for every k is computed. Assumes nothing.
-use Prim.Native.Nat.{ℕ, _≤_}
-use mathlib.Core.Path.{_≡_, refl}
-use mathlib.Core.Bool.{true}
-use lib.Dec.{leb}
+use mathlib.Core.Path.{refl}
 use borrow.Author.Tests.{le-leb}
 use Rattle.model.specs.Number.{gcdIn, gcd, lcm, least, someBelow, howMany}
 use Rattle.model.specs.Over.{sumOver, largestOver, someOver, allOver, Each}

@@ -1,6 +1,5 @@
 -- Document 01's number and values for each case of an answer. "Answers are verdict, interval, demand, count."
 use Prim.Native.Nat.{ℕ}
-use Rattle.model.specs.declared.answers.Refusal.{Refusal}
 use Rattle.model.specs.declared.answers.Verdict.{Verdict}
 use Rattle.model.specs.declared.answers.Verdict.the-variants.{Passes, Overrun, LoadAboveOne, NotShown}
 use Rattle.model.specs.declared.answers.Answer.{Answer}

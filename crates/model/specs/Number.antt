@@ -1,6 +1,6 @@
 -- Numbers: the least common multiple, and what is said of the numbers below a bound. Document 01 uses these words and does not define them.
 use Prim.Native.Nat.{ℕ, zero, suc, _+_, _*_, _/_, _%_}
-use mathlib.Core.Bool.{Bool, true, false, cond}
+use mathlib.Core.Bool.{Bool, cond}
 use lib.Dec.{ltb}
 
 -- Euclid's steps, n of them at most

@@ -42,14 +42,6 @@ isAbove k s I = ltb (H s * I) (HD' k s I)
 unfoldable pub isVisited : ℕ → List Element → ℕ → Bool
 isVisited k s I = someOver s (λ e. isTestOf e I && leb I (m k e))
 
--- k for each periodic element and one for each single event
-abbrev pub lengthsOf : ℕ → Period → ℕ
-lengthsOf k Once = 1
-lengthsOf k (Every p) = k
-
-unfoldable pub budget : ℕ → List Element → ℕ
-budget k s = sumOver s (λ e. lengthsOf k (e .period))
-
 -- "Otherwise the distinct lengths [..] are compared in rising order. At the first with D'(I) > I the verdict is 3." None is above the largest m
 abbrev pub superpositionLengths : ℕ → List Element → Lengths
 superpositionLengths k s = record { visited = isVisited k s; fails = isAbove k s; end = suc (largestOver s (m k)) }

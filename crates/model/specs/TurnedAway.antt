@@ -6,7 +6,6 @@ use lib.Dec.{leb, ltb}
 use lib.ListN.{length, take}
 use Rattle.model.specs.declared.elements.Element.{Element}
 use Rattle.model.specs.declared.elements.TaskSet.{TaskSet}
-use Rattle.model.specs.declared.answers.Refusal.{Refusal}
 use Rattle.model.specs.declared.answers.Check.{Check}
 use Rattle.model.specs.declared.answers.Check.the-variants.{Fine, TurnedAway}
 use Rattle.model.specs.declared.answers.Verdict.{Verdict}

@@ -1,24 +1,21 @@
 -- Laws of specs/Demand, of one element: how its demand grows, and which lengths are its test lengths. Assumes nothing.
-use Prim.Native.Nat.{ℕ, zero, suc, _+_, _*_, _-_, _/_, _%_, _≤_, _<_, _∣_}
+use Prim.Native.Nat.{ℕ, suc, _+_, _*_, _-_, _/_, _%_, _≤_, _<_}
 use mathlib.Core.Path.{_≡_, refl, ap, sym, _∙_}
-use mathlib.Core.Bool.{Bool, true, false, _&&_, cond}
-use mathlib.Core.Logic.{_⊎_, inl, inr, ⊎-elim, _↔_}
+use mathlib.Core.Bool.{true, false}
+use mathlib.Core.Logic.{⊎-elim, _↔_}
 use native.Mathlib.Omega.{arith}
 use native.Mathlib.Nat.{mul-div-cancel', add-mul-div-left, mul-mod-left, mod-lt, zero-mod, div-add-mod', pos-of-ne-zero, le-div-iff-mul-le, div-mul-le-self, le-trans, mul-le-mul-right}
 use lib.Arith.{digits-div}
-use lib.Dec.{leb, ltb, eqb}
+use lib.Dec.{leb}
 use borrow.Author.Tests.{lt-ltb, le-ltb, le-leb, leb-true, eq-eqb, eqb-true, eqb-false}
 use Rattle.model.specs.declared.elements.Period.{Period}
 use Rattle.model.specs.declared.elements.Period.the-variants.{Once, Every}
 use Rattle.model.specs.declared.elements.Element.{Element}
 use Rattle.model.specs.Demand.{f, dues, demandOf, turns, onDate, isTestOf}
-use Rattle.model.proofs.Cases.{clash, lt-or-le, and-both, and-left, and-right, not-right}
+use Rattle.theory.specs.Multiples.{Divides}
+use Rattle.theory.specs.TestLengths.{IsDate}
+use Rattle.model.proofs.Cases.{clash, lt-or-le, and-both, and-left, and-right}
 use Rattle.model.proofs.ElementLaws.{Runs, Legal}
-
--- h is a multiple of the period, if it is one
-abbrev pub Divides : Period → ℕ → Type 0
-Divides Once h = Unit {0}
-Divides (Every p) h = p ∣ h
 
 -- DEMAND BY CASES
 pub early : (e : Element) (I : ℕ) → I < f e → demandOf e I ≡ 0
@@ -90,10 +87,6 @@ demandOf-rests I e l o = ⊎-elim
     (lt-or-le (suc I) (f e))
 
 -- TEST LENGTHS are f + j p, and f for a single event
-abbrev pub IsDate : Period → ℕ → ℕ → Type 0
-IsDate Once first I = I ≡ first
-IsDate (Every p) first I = (j : ℕ) × (I ≡ first + j * p)
-
 date-of : (q : Period) (first I : ℕ) → first ≤ I → onDate q (I - first) ≡ true → IsDate q first I
 date-of Once first I l o = omega (arith, eqb-true (I - first) 0 o)
 date-of (Every p) first I l o = ((I - first) / p, omega (arith, div-add-mod' (I - first) p, eqb-true ((I - first) % p) 0 o))

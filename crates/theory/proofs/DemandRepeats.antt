@@ -1,5 +1,5 @@
 -- From F on, demand grows by Q in each hyperperiod. Assumes nothing.
-use Prim.Native.Nat.{ℕ, zero, suc, _+_, _*_, _≤_, _<_}
+use Prim.Native.Nat.{ℕ, zero, suc, _+_, _*_, _≤_}
 use mathlib.Core.Path.{_≡_, ap, _∙_}
 use mathlib.Core.List.{List}
 use native.Mathlib.Omega.{arith}
@@ -8,10 +8,11 @@ use Rattle.model.specs.Over.{Each}
 use Rattle.model.specs.Elements.{AllLegal}
 use Rattle.model.specs.Demand.{f, F, H, demandOf, D, turns, loadIn, Q}
 use Rattle.model.specs.ExactTest.{multiple}
+use Rattle.theory.specs.Multiples.{CommonMultiple}
 use Rattle.model.proofs.OverLaws.{each-map₃, largest-each, sum-same, sum-plus}
 use Rattle.model.proofs.ElementLaws.{Legal, all-legal}
 use Rattle.theory.proofs.DemandLaws.{demandOf-repeats}
-use Rattle.theory.proofs.HyperperiodIsLeast.{CommonMultiple, hyperperiod-is-common-multiple}
+use Rattle.theory.proofs.HyperperiodIsLeast.{hyperperiod-is-common-multiple}
 
 -- h ticks later, for any common multiple h of the periods
 repeats : (s : List Element) (I h : ℕ) → Each s Legal → CommonMultiple s h → F s ≤ I → D s (I + h) ≡ D s I + loadIn s h

@@ -1,6 +1,6 @@
 -- Demand changes only at test lengths, and begins with 0. Assumes nothing.
 use Prim.Native.Nat.{ℕ, zero, suc, _+_, _≤_, _<_}
-use mathlib.Core.Path.{_≡_, refl, ap, _∙_}
+use mathlib.Core.Path.{_≡_, ap, _∙_}
 use mathlib.Core.Bool.{false}
 use mathlib.Core.List.{List}
 use native.Mathlib.Omega.{arith}
@@ -8,7 +8,7 @@ use Rattle.model.specs.declared.elements.Element.{Element}
 use Rattle.model.specs.Elements.{AllLegal}
 use Rattle.model.specs.Demand.{demandOf, D, isTestOf, isTest}
 use Rattle.model.proofs.OverLaws.{each-map, each-map₂, none-each, sum-same, sum-zero}
-use Rattle.model.proofs.ElementLaws.{Legal, all-legal}
+use Rattle.model.proofs.ElementLaws.{all-legal}
 use Rattle.theory.proofs.DemandLaws.{demandOf-rests, demandOf-zero}
 
 pub demand-at-zero : (s : List Element) → AllLegal s → D s 0 ≡ 0

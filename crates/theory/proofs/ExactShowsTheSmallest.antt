@@ -1,34 +1,25 @@
 -- With load at most one the exact test says overloaded exactly when some length has more demand than length, and shows the smallest. Assumes nothing.
 use Prim.Native.Nat.{ℕ, zero, suc, _+_, _-_, _≤_, _<_}
-use mathlib.Core.Path.{_≡_, refl, ap, sym, _∙_}
-use mathlib.Core.Bool.{true, false}
+use mathlib.Core.Path.{_≡_, refl}
+use mathlib.Core.Bool.{true}
 use mathlib.Core.List.{List}
 use mathlib.Core.Logic.{_⊎_, inl, inr, ⊎-elim, _↔_}
 use native.Mathlib.Omega.{arith}
 use Rattle.model.specs.declared.elements.Element.{Element}
 use Rattle.model.specs.declared.answers.Verdict.{Verdict}
 use Rattle.model.specs.declared.answers.Verdict.the-variants.{Passes, Overrun}
-use Rattle.model.specs.Number.{least, howMany}
+use Rattle.model.specs.Number.{howMany}
 use Rattle.model.specs.Elements.{AllLegal}
 use Rattle.model.specs.Demand.{F, H, D, Q, isTest}
-use Rattle.model.specs.Answers.{Values, values}
-use Rattle.model.specs.ExactTest.{isOverrun, comparing, byLoad, exactLengths, exact}
+use Rattle.model.specs.Answers.{values}
+use Rattle.model.specs.ExactTest.{isOverrun, comparing, exactLengths, exact}
+use Rattle.theory.specs.Exactness.{Overloaded, IsSmallest, ShowsTheSmallest}
 use Rattle.model.proofs.Cases.{test, clash, lt-or-le}
-use Rattle.model.proofs.NumberLaws.{None, Least, least-is}
-use Rattle.theory.proofs.ExactTestLaws.{overrun, no-overrun, is-overrun, FirstFailing, Compared, compared, load-at-most}
+use Rattle.model.proofs.NumberLaws.{Least, least-is}
+use Rattle.theory.proofs.ExactTestLaws.{overrun, no-overrun, is-overrun, Compared, compared, load-at-most}
 use Rattle.theory.proofs.HyperperiodIsLeast.{hyperperiod-is-positive}
 use Rattle.theory.proofs.DemandRepeats.{demand-repeats}
 use Rattle.theory.proofs.DemandRests.{demand-at-zero, demand-rests}
-
--- some length, at least 1 and of any size, has more demand than length
-abbrev pub Overloaded : List Element → Type 0
-Overloaded s = (I : ℕ) × (1 ≤ I) × (I < D s I)
-
--- I is the smallest such length
-pub record IsSmallest (s : List Element) (I : ℕ) : Type 0 where
-  pub positive : 1 ≤ I
-  pub over : I < D s I
-  pub none : (J : ℕ) → J < I → D s J ≤ J
 
 module _ (s : List Element) (legal : AllLegal s) where
   smallest-positive : (I : ℕ) → I < D s I → 1 ≤ I
@@ -102,17 +93,11 @@ module _ (s : List Element) (legal : AllLegal s) (load : Q s ≤ H s) where
         w .1,
       )
 
-  -- what verdict 1 shows
-  pub record ShowsTheSmallest (v : Values) : Type 0 where
-    pub smallest : IsSmallest s (v .interval)
-    pub demand : v .demand ≡ D s (v .interval)
-    pub count : v .count ≡ howMany (isTest s) (suc (v .interval))
-
   overloaded-when : (v : Verdict) → Found v → (values v .verdict ≡ 1) ↔ Overloaded s
   overloaded-when v (inl w) = (λ e. (w .0, w .1 .positive, w .1 .over), λ o. rw (w .2))
   overloaded-when v (inr w) = (λ e. absurd (omega (arith, rw (w .1) at e)), λ o. absurd (omega (arith, w .0 (o .0), o .2)))
 
-  smallest-when : (v : Verdict) → Found v → values v .verdict ≡ 1 → ShowsTheSmallest (values v)
+  smallest-when : (v : Verdict) → Found v → values v .verdict ≡ 1 → ShowsTheSmallest s (values v)
   smallest-when v (inl w) e = rw (w .2) (record { smallest = w .1; demand = refl; count = refl })
   smallest-when v (inr w) e = absurd (omega (arith, rw (w .1) at e))
 
@@ -125,7 +110,7 @@ module _ (s : List Element) (legal : AllLegal s) (load : Q s ≤ H s) where
   overloaded-exactly-when = overloaded-when (exact s) found
 
   -- "its interval is the smallest such length; its demand is D there"
-  pub shows-the-smallest : values (exact s) .verdict ≡ 1 → ShowsTheSmallest (values (exact s))
+  pub shows-the-smallest : values (exact s) .verdict ≡ 1 → ShowsTheSmallest s (values (exact s))
   shows-the-smallest = smallest-when (exact s) found
 
   -- "otherwise it is 0", and every test length below F + H was compared

@@ -1,7 +1,7 @@
 -- Laws of specs/ExactTest: what comparing lengths comes to. Assumes nothing.
 use Prim.Native.Nat.{ℕ, suc, _≤_, _<_, min}
-use mathlib.Core.Path.{_≡_, refl, ap, sym, _∙_}
-use mathlib.Core.Bool.{Bool, true, false, _&&_, cond}
+use mathlib.Core.Path.{_≡_}
+use mathlib.Core.Bool.{true, false, _&&_, cond}
 use mathlib.Core.List.{List}
 use mathlib.Core.Logic.{_⊎_, inl, inr}
 use native.Mathlib.Omega.{arith}
@@ -14,7 +14,7 @@ use Rattle.model.specs.Number.{least, howMany}
 use Rattle.model.specs.Demand.{H, D, Q}
 use Rattle.model.specs.ExactTest.{isOverrun, overload, Lengths, failing, stop, comparing, byLoad}
 use Rattle.model.proofs.Cases.{and-left, and-right, not-right}
-use Rattle.model.proofs.NumberLaws.{IsFirst, Least, least-is}
+use Rattle.model.proofs.NumberLaws.{Least, least-is}
 
 module _ (s : List Element) (I : ℕ) where
   pub overrun : isOverrun s I ≡ true → I < D s I

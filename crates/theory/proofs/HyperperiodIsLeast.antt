@@ -9,14 +9,10 @@ use Rattle.model.specs.declared.elements.Element.{Element}
 use Rattle.model.specs.Over.{Each}
 use Rattle.model.specs.Elements.{AllLegal}
 use Rattle.model.specs.Demand.{joined, H}
+use Rattle.theory.specs.Multiples.{Divides, CommonMultiple}
 use Rattle.model.proofs.NumberLaws.{lcm-left, lcm-right, lcm-least, lcm-positive}
 use Rattle.model.proofs.OverLaws.{each-map}
 use Rattle.model.proofs.ElementLaws.{Runs, Legal, all-legal}
-use Rattle.theory.proofs.DemandLaws.{Divides}
-
--- h is a multiple of every period
-abbrev pub CommonMultiple : List Element → ℕ → Type 0
-CommonMultiple s h = Each s (λ e. Divides (e .period) h)
 
 -- ONE PERIOD MORE
 joined-positive : (q : Period) (h : ℕ) → Runs q → 0 < h → 0 < joined q h

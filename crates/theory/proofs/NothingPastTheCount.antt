@@ -1,6 +1,6 @@
 -- "Nothing past the count affects any answer": sets that are the same have the same answers. Assumes nothing.
 use Prim.Native.Nat.{ℕ}
-use mathlib.Core.Path.{_≡_, refl}
+use mathlib.Core.Path.{_≡_}
 use Rattle.model.specs.declared.elements.TaskSet.{TaskSet}
 use Rattle.model.specs.Elements.{Same}
 use Rattle.model.specs.TurnedAway.{checkSet, exactAnswer, superpositionAnswer}

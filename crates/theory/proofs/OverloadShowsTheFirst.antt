@@ -1,31 +1,22 @@
 -- With load above one the verdict is 2: it shows an overrun, the first among F, F + H, F + 2H and so on. Assumes nothing.
-use Prim.Native.Nat.{ℕ, suc, _+_, _*_, _≤_, _<_}
-use mathlib.Core.Path.{_≡_, refl, ap}
+use Prim.Native.Nat.{ℕ, _+_, _<_}
+use mathlib.Core.Path.{refl}
 use mathlib.Core.List.{List}
 use mathlib.Core.Logic.{inl, inr, ⊎-elim}
 use native.Mathlib.Omega.{arith}
 use native.Mathlib.Nat.{mul-le-mul-left, mul-le-mul-right}
 use Rattle.model.specs.declared.elements.Element.{Element}
 use Rattle.model.specs.declared.answers.Verdict.the-variants.{Overrun, NotShown}
-use Rattle.model.specs.Number.{least}
 use Rattle.model.specs.Elements.{AllLegal}
 use Rattle.model.specs.Demand.{F, H, D, Q}
-use Rattle.model.specs.Answers.{Values, values}
-use Rattle.model.specs.ExactTest.{isOverrun, multiple, overloadAt, overload, comparing, byLoad, exactLengths, exact}
+use Rattle.model.specs.Answers.{values}
+use Rattle.model.specs.ExactTest.{isOverrun, multiple, overloadAt, overload, comparing, exactLengths, exact}
 use Rattle.model.specs.Superposition.{superpositionLengths, superposition}
+use Rattle.theory.specs.Exactness.{ShowsTheFirst}
 use Rattle.model.proofs.Cases.{lt-or-le}
 use Rattle.model.proofs.NumberLaws.{Least, least-is}
 use Rattle.theory.proofs.ExactTestLaws.{overrun, no-overrun, load-above}
 use Rattle.theory.proofs.DemandRepeats.{demand-at-multiple}
-
--- what verdict 2 shows
-pub record ShowsTheFirst (s : List Element) (v : Values) : Type 0 where
-  pub verdict : v .verdict ≡ 2
-  pub among : (j : ℕ) × (v .interval ≡ F s + j * H s)
-  pub over : v .interval < D s (v .interval)
-  pub first : (j : ℕ) → F s + j * H s < v .interval → D s (F s + j * H s) ≤ F s + j * H s
-  pub demand : v .demand ≡ D s (v .interval)
-  pub count : v .count ≡ 0
 
 module _ (s : List Element) where
   -- an earlier multiple is an earlier j

@@ -1,5 +1,5 @@
 -- If superposition holds back at a length, exact demand there, times k + 1, is more than k times the length. Assumes nothing.
-use Prim.Native.Nat.{ℕ, _+_, _*_, _≤_, _<_}
+use Prim.Native.Nat.{ℕ, _+_, _*_, _≤_}
 use mathlib.Core.Path.{_≡_, ap}
 use mathlib.Core.List.{List}
 use mathlib.Core.Logic.{⊎-elim}
@@ -8,8 +8,9 @@ use native.Mathlib.Nat.{mul-le-mul-left, lt-of-mul-lt-mul-left}
 use Rattle.model.specs.declared.elements.Element.{Element}
 use Rattle.model.specs.Elements.{AllLegal}
 use Rattle.model.specs.Demand.{H, demandOf, D, Q}
-use Rattle.model.specs.Answers.{Values, values}
+use Rattle.model.specs.Answers.{values}
 use Rattle.model.specs.Superposition.{scaledBy, scaledIn, superposition}
+use Rattle.theory.specs.Approximation.{NearOverrun}
 use Rattle.model.proofs.OverLaws.{each-map₂, sum-le, sum-times}
 use Rattle.model.proofs.ElementLaws.{all-legal}
 use Rattle.theory.proofs.SuperpositionLaws.{below}
@@ -32,7 +33,7 @@ scaled-below k s I legal l =
 -- THEOREM 3: "if it is 3 at I then D(I) times k + 1 is more than k times I"; the demand shown is D(I)
 pub near-overrun-if-superposition-holds-back :
     (k : ℕ) (s : List Element) → AllLegal s → 1 ≤ k → Q s ≤ H s → values (superposition k s) .verdict ≡ 3 →
-    (k * values (superposition k s) .interval < (k + 1) * D s (values (superposition k s) .interval)) × (values (superposition k s) .demand ≡ D s (values (superposition k s) .interval))
+    NearOverrun k s (values (superposition k s) .interval) × (values (superposition k s) .demand ≡ D s (values (superposition k s) .interval))
 near-overrun-if-superposition-holds-back k s legal l load v = ⊎-elim
     (λ w. (
       lt-of-mul-lt-mul-left (H s) (omega (arith, scaled-below k s (values (superposition k s) .interval) legal l, mul-le-mul-left k (w .above))),

@@ -1,23 +1,24 @@
 -- If superposition accepts, exact demand exceeds no length at all. Assumes nothing.
 use Prim.Native.Nat.{ℕ, zero, suc, _+_, _*_, _≤_}
-use mathlib.Core.Path.{_≡_, refl}
+use mathlib.Core.Path.{_≡_}
 use mathlib.Core.Bool.{true, false, _&&_}
 use mathlib.Core.List.{List}
-use mathlib.Core.Logic.{inl, inr, ⊎-elim}
+use mathlib.Core.Logic.{⊎-elim}
 use native.Mathlib.Omega.{arith}
 use native.Mathlib.Nat.{le-of-mul-le-mul-left}
 use lib.Dec.{leb}
 use Rattle.model.specs.declared.elements.Element.{Element}
-use Rattle.model.specs.Over.{Each, sumOver}
+use Rattle.model.specs.Over.{Each}
 use Rattle.model.specs.Elements.{AllLegal}
 use Rattle.model.specs.Demand.{H, demandOf, D, turns, loadIn, Q, isTestOf}
-use Rattle.model.specs.Answers.{Values, values}
-use Rattle.model.specs.Superposition.{m, scaledBy, scaledIn, HD', isVisited, superposition}
+use Rattle.model.specs.Answers.{values}
+use Rattle.model.specs.Superposition.{m, scaledBy, scaledIn, isVisited, superposition}
+use Rattle.theory.specs.Multiples.{CommonMultiple}
 use Rattle.model.proofs.Cases.{test}
 use Rattle.model.proofs.OverLaws.{each-map, each-map₂, none-each, sum-le, sum-zero, sum-plus, sum-times}
 use Rattle.model.proofs.ElementLaws.{Legal, all-legal}
 use Rattle.theory.proofs.SuperpositionLaws.{above, rises, starts}
-use Rattle.theory.proofs.HyperperiodIsLeast.{CommonMultiple, hyperperiod-is-positive, hyperperiod-is-common-multiple}
+use Rattle.theory.proofs.HyperperiodIsLeast.{hyperperiod-is-positive, hyperperiod-is-common-multiple}
 use Rattle.theory.proofs.SuperpositionAnswers.{superposition-answers}
 
 module _ (k h : ℕ) (s : List Element) (l : 1 ≤ k) (legal : Each s Legal) where

@@ -15,13 +15,15 @@ use Rattle.model.specs.Number.{howMany}
 use Rattle.model.specs.Over.{sumOver, someOver}
 use Rattle.model.specs.Elements.{AllLegal}
 use Rattle.model.specs.Demand.{f, H, Q, isTestOf}
-use Rattle.model.specs.Answers.{Values, values}
-use Rattle.model.specs.Superposition.{exactPart, m, isVisited, lengthsOf, budget, superposition}
+use Rattle.model.specs.Answers.{values}
+use Rattle.model.specs.Superposition.{exactPart, m, isVisited, superposition}
+use Rattle.theory.specs.TestLengths.{IsDate}
+use Rattle.theory.specs.Approximation.{lengthsOf, budget}
 use Rattle.model.proofs.Cases.{lt-or-le, and-both, and-left, and-right}
 use Rattle.model.proofs.NumberLaws.{howMany-zero, howMany-gap, howMany-or, howMany-le, howMany-once}
 use Rattle.model.proofs.OverLaws.{each-map, sum-le}
 use Rattle.model.proofs.ElementLaws.{Runs, Legal, all-legal}
-use Rattle.theory.proofs.DemandLaws.{IsDate, test-of}
+use Rattle.theory.proofs.DemandLaws.{test-of}
 use Rattle.theory.proofs.SuperpositionAnswers.{visited-below, superposition-answers}
 
 -- ONE ELEMENT: its test lengths up to a limit

@@ -1,21 +1,22 @@
 -- Laws of specs/Superposition: one element's approximated demand, scaled with h. Assumes nothing.
-use Prim.Native.Nat.{ℕ, zero, suc, _+_, _*_, _-_, _/_, _≤_, _<_}
-use mathlib.Core.Path.{_≡_, refl, ap, sym, _∙_}
-use mathlib.Core.Bool.{Bool, true, false, _&&_, cond, and-true}
+use Prim.Native.Nat.{ℕ, suc, _+_, _*_, _-_, _/_, _≤_, _<_}
+use mathlib.Core.Path.{_≡_, refl, ap, _∙_}
+use mathlib.Core.Bool.{true, false, _&&_, and-true}
 use mathlib.Core.List.{List}
 use mathlib.Core.Logic.{⊎-elim}
 use native.Mathlib.Omega.{arith}
 use native.Mathlib.Nat.{mul-div-cancel', mul-add-div-right, mul-div-cancel, div-mul-le-self, lt-div-mul-add, mul-le-mul-left, mul-le-mul-right}
-use lib.Dec.{leb, ltb}
-use borrow.Author.Tests.{lt-ltb, le-ltb, le-leb, lt-leb, ltb-true, ltb-false}
+use lib.Dec.{leb}
+use borrow.Author.Tests.{le-leb, lt-leb, ltb-true, ltb-false}
 use Rattle.model.specs.declared.elements.Period.{Period}
 use Rattle.model.specs.declared.elements.Period.the-variants.{Once, Every}
 use Rattle.model.specs.declared.elements.Element.{Element}
 use Rattle.model.specs.Demand.{f, H, dues, demandOf, turns, isTestOf}
 use Rattle.model.specs.Superposition.{exactPart, m, scaledBy, HD', isAbove}
+use Rattle.theory.specs.Multiples.{Divides}
 use Rattle.model.proofs.Cases.{lt-or-le}
 use Rattle.model.proofs.ElementLaws.{Runs, Legal}
-use Rattle.theory.proofs.DemandLaws.{Divides, late, demandOf-rests, demandOf-zero}
+use Rattle.theory.proofs.DemandLaws.{late, demandOf-rests, demandOf-zero}
 
 module _ (k h : ℕ) (l : 1 ≤ k) where
   -- THE LINE of one unit of cost, x ticks past m; flat for a single event

@@ -1,27 +1,22 @@
 -- A set in memory that gets a verdict is legal, its H is within its limit, and the verdict is the definition's: so the theorems about legal
 -- elements hold of every verdict given. Assumes nothing.
-use Prim.Native.Nat.{ℕ, _≤_}
-use mathlib.Core.Path.{_≡_, refl, ap, sym, _∙_}
-use mathlib.Core.Bool.{Bool, true, not}
-use mathlib.Core.List.{List}
-use mathlib.Core.Logic.{_↔_}
+use Prim.Native.Nat.{ℕ}
+use mathlib.Core.Path.{_≡_, refl}
 use native.Mathlib.Omega.{arith}
 use lib.Dec.{leb}
 use borrow.Author.Tests.{leb-true}
-use Rattle.model.specs.declared.elements.Element.{Element}
 use Rattle.model.specs.declared.elements.TaskSet.{TaskSet}
-use Rattle.model.specs.declared.answers.Refusal.{Refusal}
 use Rattle.model.specs.declared.answers.Check.{Check}
 use Rattle.model.specs.declared.answers.Check.the-variants.{Fine, TurnedAway}
 use Rattle.model.specs.declared.answers.Verdict.{Verdict}
-use Rattle.model.specs.declared.answers.Answer.{Answer}
-use Rattle.model.specs.declared.answers.Answer.the-variants.{Refused, Given}
+use Rattle.model.specs.declared.answers.Answer.the-variants.{Given}
 use Rattle.model.specs.Over.{allOver}
-use Rattle.model.specs.Elements.{places, mostH, mostK, within, isLegal, AllLegal, counted, isLegalSet}
+use Rattle.model.specs.Elements.{places, mostH, mostK, within, isLegal, counted, isLegalSet}
 use Rattle.model.specs.Demand.{H}
 use Rattle.model.specs.ExactTest.{exact}
 use Rattle.model.specs.Superposition.{superposition}
-use Rattle.model.specs.TurnedAway.{unless, _then_, checkSet, firstAbove, checkH, checkK, exactIsLarge, superpositionIsLarge, answered, analysis, exactAnswer, superpositionAnswer}
+use Rattle.model.specs.TurnedAway.{_then_, checkSet, firstAbove, checkH, checkK, answered, analysis, exactAnswer, superpositionAnswer}
+use Rattle.theory.specs.Taken.{Taken}
 use Rattle.model.proofs.Cases.{and-left, and-right}
 use Rattle.model.proofs.ElementLaws.{Within, within-is}
 use Rattle.model.proofs.TurnedAwayLaws.{then-fine, unless-fine, set-fine}
@@ -29,12 +24,6 @@ use Rattle.model.proofs.TurnedAwayLaws.{then-fine, unless-fine, set-fine}
 given-fine : (c : Check) (w v : Verdict) → answered c w ≡ Given v → (c ≡ Fine) × (v ≡ w)
 given-fine Fine w v h = (refl, cc)
 given-fine (TurnedAway r) w v h = absurd (let z : _≡_ {A = ℕ} 0 1 = cc in omega arith)
-
--- a set that is taken for analysis
-pub record Taken (t : TaskSet) : Type 0 where
-  pub legal : AllLegal (counted t)
-  pub few : t .count ≤ places
-  pub small : H (counted t) ≤ mostH
 
 taken : (t : TaskSet) → checkSet t ≡ Fine → checkH (λ place. place) (counted t) ≡ Fine → Taken t
 unfolding isLegalSet checkH

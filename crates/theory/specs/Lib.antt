@@ -1,0 +1,5 @@
+pub mod Multiples
+pub mod TestLengths
+pub mod Exactness
+pub mod Approximation
+pub mod Taken
