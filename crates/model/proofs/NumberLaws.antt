@@ -86,6 +86,14 @@ module _ (t : ℕ → Bool) where
   least-is zero = inr (refl, λ j h. absurd (omega arith))
   least-is (suc n) = least-step n (least t n) (least-is n)
 
+  -- where n passes, there is a first, and it is found
+  pub least-first : (n : ℕ) → t n ≡ true → IsFirst (least t n) × (least t n ≤ n)
+  least-first n p = go (least-is n)
+    where
+      go : Least n (least t n) → IsFirst (least t n) × (least t n ≤ n)
+      go (inl r) = (r .1, omega (arith, r .0))
+      go (inr r) = (rw (r .0) (record { passes = p; none = r .1 }), omega (arith, r .0))
+
 -- HOW MANY PASS
 one-if : (a b : Bool) → (a ≡ true → b ≡ true) → cond a 1 0 ≤ cond b 1 0
 one-if true b h = rw (h refl) (omega arith)

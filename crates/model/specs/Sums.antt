@@ -9,7 +9,7 @@ use Rattle.model.specs.declared.answers.Check.the-variants.{Fine}
 use Rattle.model.specs.Elements.{mostK, setOf}
 use Rattle.model.specs.Demand.{H, D}
 use Rattle.model.specs.Answers.{Numbers, refused, given, numbers}
-use Rattle.model.specs.TurnedAway.{checkH, exactAnswer, superpositionAnswer}
+use Rattle.model.specs.TurnedAway.{_then_, checkSet, checkH, exactAnswer, superpositionAnswer}
 
 abbrev pub every : ℕ → ℕ → ℕ → ℕ → Element
 every p a d c = record { period = Every p; offset = a; deadline = d; cost = c }
@@ -34,7 +34,7 @@ Holds (exactly s a) = numbers (exactAnswer (setOf s)) ≡ a
 Holds (with-k k s a) = numbers (superpositionAnswer k (setOf s)) ≡ a
 Holds (any-k s a) = (k : ℕ) → 1 ≤ k → k ≤ mostK → numbers (superpositionAnswer k (setOf s)) ≡ a
 Holds (demand-at I s d) = D s I ≡ d
-Holds (taken-with h s) = (H s ≡ h) × (checkH (λ place. place) s ≡ Fine)
+Holds (taken-with h s) = (H s ≡ h) × ((checkSet (setOf s) then checkH (λ place. place) s) ≡ Fine)
 Holds (refused-with h s a) = (H s ≡ h) × (numbers (exactAnswer (setOf s)) ≡ a)
 
 abbrev pub sums : List Sum

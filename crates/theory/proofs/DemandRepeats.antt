@@ -22,7 +22,7 @@ repeats s I h l c b =
     (each-map₃ s (demandOf-repeats I h) l c (largest-each s f I b))
     ∙ sum-plus s (λ e. demandOf e I) (λ e. e .cost * turns (e .period) h)
 
--- THEOREM 1: "D(I + H) = D(I) + Q for I at least F"
+-- THEOREM: D(I + H) = D(I) + Q for I at least F
 pub demand-repeats : (s : List Element) (I : ℕ) → AllLegal s → F s ≤ I → D s (I + H s) ≡ D s I + Q s
 demand-repeats s I legal b = repeats s I (H s) (all-legal s legal) (hyperperiod-is-common-multiple s legal) b
 

@@ -22,7 +22,7 @@ demand-rests s I legal o =
     sum-same s (λ e. demandOf e (suc I)) (λ e. demandOf e I)
     (each-map₂ s (demandOf-rests I) (all-legal s legal) (none-each s (λ e. isTestOf e (suc I)) o))
 
--- THEOREM 1: "D changes only at test lengths": the same at I and n ticks later, where none is between or there
+-- THEOREM: D changes only at test lengths. It is the same at I and n ticks later, where no test length is past I and up to there
 pub demand-changes-only-at-test-lengths : (s : List Element) (I n : ℕ) → AllLegal s → ((J : ℕ) → I < J → J ≤ I + n → isTest s J ≡ false) → D s (I + n) ≡ D s I
 demand-changes-only-at-test-lengths s I zero legal quiet = ap (D s) (let e : I + 0 ≡ I = omega arith in e)
 demand-changes-only-at-test-lengths s I (suc n) legal quiet =

@@ -1,21 +1,21 @@
 -- With load at most one the exact test says overloaded exactly when some length has more demand than length, and shows the smallest. Assumes nothing.
 use Prim.Native.Nat.{ℕ, zero, suc, _+_, _-_, _≤_, _<_}
 use mathlib.Core.Path.{_≡_, refl}
-use mathlib.Core.Bool.{true}
+use mathlib.Core.Bool.{true, false}
 use mathlib.Core.List.{List}
 use mathlib.Core.Logic.{_⊎_, inl, inr, ⊎-elim, _↔_}
 use native.Mathlib.Omega.{arith}
 use Rattle.model.specs.declared.elements.Element.{Element}
 use Rattle.model.specs.declared.answers.Verdict.{Verdict}
 use Rattle.model.specs.declared.answers.Verdict.the-variants.{Passes, Overrun}
-use Rattle.model.specs.Number.{howMany}
+use Rattle.model.specs.Number.{least, howMany}
 use Rattle.model.specs.Elements.{AllLegal}
 use Rattle.model.specs.Demand.{F, H, D, Q, isTest}
 use Rattle.model.specs.Answers.{values}
 use Rattle.model.specs.ExactTest.{isOverrun, comparing, exactLengths, exact}
 use Rattle.theory.specs.Exactness.{Overloaded, IsSmallest, ShowsTheSmallest}
 use Rattle.model.proofs.Cases.{test, clash, lt-or-le}
-use Rattle.model.proofs.NumberLaws.{Least, least-is}
+use Rattle.model.proofs.NumberLaws.{least-first}
 use Rattle.theory.proofs.ExactTestLaws.{overrun, no-overrun, is-overrun, Compared, compared, load-at-most}
 use Rattle.theory.proofs.HyperperiodIsLeast.{hyperperiod-is-positive}
 use Rattle.theory.proofs.DemandRepeats.{demand-repeats}
@@ -46,15 +46,29 @@ module _ (s : List Element) (legal : AllLegal s) where
 
   -- where there is an overrun there is a smallest
   smallest-of : (I : ℕ) → I < D s I → (J : ℕ) × (J ≤ I) × IsSmallest s J
-  smallest-of I o = go _ (least-is (isOverrun s) (suc I))
-    where
-      go : (J : ℕ) → Least (isOverrun s) (suc I) J → (J : ℕ) × (J ≤ I) × IsSmallest s J
-      go J (inl w) = (
-        J,
-        omega (arith, w .0),
-        record { positive = smallest-positive J (overrun s J (w .1 .passes)); over = overrun s J (w .1 .passes); none = λ i l. no-overrun s i (w .1 .none i l) },
+  smallest-of I o =
+      let w = least-first (isOverrun s) I (is-overrun s I o) in
+      let over = overrun s (least (isOverrun s) I) (w .0 .passes) in (
+        least (isOverrun s) I,
+        w .1,
+        record { positive = smallest-positive (least (isOverrun s) I) over; over = over; none = λ J l. no-overrun s J (w .0 .none J l) },
       )
-      go J (inr w) = absurd (clash (is-overrun s I o) (w .1 I (omega arith)))
+
+  -- so where every test length below n holds, every length below n does
+  all-below-hold : (n : ℕ) → ((I : ℕ) → I < n → isTest s I ≡ true → isOverrun s I ≡ false) → (I : ℕ) → I < n → D s I ≤ I
+  all-below-hold n holds I l = ⊎-elim
+      (λ o. let x = smallest-of I o in
+      absurd (clash (is-overrun s (x .0) (x .2 .over)) (holds (x .0) (omega (arith, x .1)) (smallest-tests (x .0) (x .2)))))
+      (λ o. o)
+      (lt-or-le I (D s I))
+
+  -- and where every length below F + H holds, every length of any size does
+  all-hold : Q s ≤ H s → ((I : ℕ) → I < F s + H s → D s I ≤ I) → (I : ℕ) → D s I ≤ I
+  all-hold q holds I = ⊎-elim
+      (λ o. let x = smallest-of I o in
+      absurd (omega (arith, x .2 .over, holds (x .0) (smallest-below (x .0) q (x .2)))))
+      (λ o. o)
+      (lt-or-le I (D s I))
 
 module _ (s : List Element) (legal : AllLegal s) (load : Q s ≤ H s) where
   -- what the exact test finds: the smallest overrun, or none of any size
@@ -69,29 +83,13 @@ module _ (s : List Element) (legal : AllLegal s) (load : Q s ≤ H s) where
     where
       go : Compared s Overrun (exactLengths s) (comparing s Overrun (exactLengths s)) → Found (comparing s Overrun (exactLengths s))
       go (inl w) =
-          let I = w .0 in
-          let o = overrun s I (w .1 .failure) in
+          let over = overrun s (w .0) (w .1 .failure) in
           inl (
-            I,
-            record {
-              positive = smallest-positive s legal I o;
-              over = o;
-              none = λ J l. ⊎-elim
-                  (λ b. let x = smallest-of s legal J b in
-                  absurd (clash (is-overrun s (x .0) (x .2 .over)) (w .1 .before (x .0) (omega (arith, x .1)) (smallest-tests s legal (x .0) (x .2)))))
-                  (λ b. b)
-                  (lt-or-le J (D s J));
-            },
+            w .0,
+            record { positive = smallest-positive s legal (w .0) over; over = over; none = all-below-hold s legal (w .0) (w .1 .before) },
             w .2,
           )
-      go (inr w) = inr (
-        λ I. ⊎-elim
-            (λ b. let x = smallest-of s legal I b in
-            absurd (clash (is-overrun s (x .0) (x .2 .over)) (w .0 (x .0) (smallest-below s legal (x .0) load (x .2)) (smallest-tests s legal (x .0) (x .2)))))
-            (λ b. b)
-            (lt-or-le I (D s I)),
-        w .1,
-      )
+      go (inr w) = inr (all-hold s legal load (all-below-hold s legal (F s + H s) (w .0)), w .1)
 
   overloaded-when : (v : Verdict) → Found v → (values v .verdict ≡ 1) ↔ Overloaded s
   overloaded-when v (inl w) = (λ e. (w .0, w .1 .positive, w .1 .over), λ o. rw (w .2))
@@ -105,14 +103,14 @@ module _ (s : List Element) (legal : AllLegal s) (load : Q s ≤ H s) where
   passes-when v (inl w) n = absurd (n (w .0, w .1 .positive, w .1 .over))
   passes-when v (inr w) n = w .1
 
-  -- THEOREM 2: "the exact answer's verdict is 1 exactly when some length of any size, I at least 1, has D(I) > I"
+  -- THEOREM: with Q at most H the verdict is 1 exactly when some length of any size has more demand than length
   pub overloaded-exactly-when : (values (exact s) .verdict ≡ 1) ↔ Overloaded s
   overloaded-exactly-when = overloaded-when (exact s) found
 
-  -- "its interval is the smallest such length; its demand is D there"
+  -- THEOREM: its interval is then the smallest such length, and its demand is D there
   pub shows-the-smallest : values (exact s) .verdict ≡ 1 → ShowsTheSmallest s (values (exact s))
   shows-the-smallest = smallest-when (exact s) found
 
-  -- "otherwise it is 0", and every test length below F + H was compared
+  -- THEOREM: otherwise it is 0, and every test length below F + H was compared
   pub otherwise-passes : (Overloaded s → ⊥) → exact s ≡ Passes (howMany (isTest s) (F s + H s))
   otherwise-passes = passes-when (exact s) found

@@ -54,7 +54,7 @@ unfolding H
 divisor [] n l c = one-dvd n
 divisor (e ∷ s) n l c = joined-least (e .period) (H s) n (l .0 .period) (c .0) (divisor s n (l .1) (c .1))
 
--- THEOREM 4
+-- THEOREM: H is at least 1, a multiple of every period, and divides every common multiple
 module _ (s : List Element) (legal : AllLegal s) where
   pub hyperperiod-is-positive : 1 ≤ H s
   hyperperiod-is-positive = positive s (all-legal s legal)

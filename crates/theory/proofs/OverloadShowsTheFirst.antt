@@ -2,11 +2,12 @@
 use Prim.Native.Nat.{ℕ, _+_, _<_}
 use mathlib.Core.Path.{refl}
 use mathlib.Core.List.{List}
-use mathlib.Core.Logic.{inl, inr, ⊎-elim}
+use mathlib.Core.Logic.{⊎-elim}
 use native.Mathlib.Omega.{arith}
 use native.Mathlib.Nat.{mul-le-mul-left, mul-le-mul-right}
 use Rattle.model.specs.declared.elements.Element.{Element}
 use Rattle.model.specs.declared.answers.Verdict.the-variants.{Overrun, NotShown}
+use Rattle.model.specs.Number.{least}
 use Rattle.model.specs.Elements.{AllLegal}
 use Rattle.model.specs.Demand.{F, H, D, Q}
 use Rattle.model.specs.Answers.{values}
@@ -14,8 +15,8 @@ use Rattle.model.specs.ExactTest.{isOverrun, multiple, overloadAt, overload, co
 use Rattle.model.specs.Superposition.{superpositionLengths, superposition}
 use Rattle.theory.specs.Exactness.{ShowsTheFirst}
 use Rattle.model.proofs.Cases.{lt-or-le}
-use Rattle.model.proofs.NumberLaws.{Least, least-is}
-use Rattle.theory.proofs.ExactTestLaws.{overrun, no-overrun, load-above}
+use Rattle.model.proofs.NumberLaws.{least-first}
+use Rattle.theory.proofs.ExactTestLaws.{overrun, no-overrun, is-overrun, load-above}
 use Rattle.theory.proofs.DemandRepeats.{demand-at-multiple}
 
 module _ (s : List Element) where
@@ -31,32 +32,24 @@ module _ (s : List Element) where
 
   shows : AllLegal s → H s < Q s → ShowsTheFirst s (values (overload s))
   unfolding overload overloadAt multiple
-  shows legal q = go _ (least-is (λ j. isOverrun s (multiple s j)) (F s + 1))
-    where
-      go : (i : ℕ) → Least (λ j. isOverrun s (multiple s j)) (F s + 1) i → ShowsTheFirst s (record { verdict = 2; interval = multiple s i; demand = D s (multiple s i); count = 0 })
-      go i (inl w) = record {
+  shows legal q =
+      let first = least-first (λ j. isOverrun s (multiple s j)) (F s + 1) (is-overrun s _ (last-over legal q)) .0 in
+      let i = least (λ j. isOverrun s (multiple s j)) (F s + 1) in
+      record {
         verdict = refl;
         among = (i, refl);
-        over = overrun s _ (w .1 .passes);
-        first = λ j l. no-overrun s _ (w .1 .none j (earlier i j l));
-        demand = refl;
-        count = refl;
-      }
-      go i (inr w) = record {
-        verdict = refl;
-        among = (i, refl);
-        over = rw (w .0) (last-over legal q);
-        first = λ j l. no-overrun s _ (w .1 j (omega (arith, earlier i j l)));
+        over = overrun s (multiple s i) (first .passes);
+        first = λ j l. no-overrun s (multiple s j) (first .none j (earlier i j l));
         demand = refl;
         count = refl;
       }
 
-  -- THEOREM 2, with Q above H: "the interval shown by verdict 2 is an overrun, is among F, F + H, F + 2H, .., and is the first of these"
+  -- THEOREM: with Q above H the exact test's verdict is 2, and its interval is the first overrun among F, F + H, F + 2H and so on
   pub exact-shows-the-first : AllLegal s → H s < Q s → ShowsTheFirst s (values (exact s))
   unfolding exact
   exact-shows-the-first legal q = rw (load-above s (comparing s Overrun (exactLengths s)) q) (shows legal q)
 
-  -- superposition answers the same
+  -- THEOREM: superposition shows the same
   pub superposition-shows-the-first : (k : ℕ) → AllLegal s → H s < Q s → ShowsTheFirst s (values (superposition k s))
   unfolding superposition
   superposition-shows-the-first k legal q = rw (load-above s (comparing s NotShown (superpositionLengths k s)) q) (shows legal q)

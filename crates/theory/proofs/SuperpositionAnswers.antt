@@ -46,7 +46,7 @@ module _ (k : ℕ) (s : List Element) where
     count = λ n b. howMany-all (isVisited k s) (suc (largestOver s (m k))) n visited-below b;
   }))
 
-  -- THEOREM 3: "the count is the number of distinct visited lengths up to and including the last compared", in both cases
+  -- THEOREM: it holds back or accepts; the count is of the distinct visited lengths up to and including the last compared
   pub superposition-answers : Q s ≤ H s → HoldsBack k s (values (superposition k s)) ⊎ Accepts k s (values (superposition k s))
   unfolding superposition
   superposition-answers load =

@@ -30,7 +30,7 @@ scaled-below k s I legal l =
           (each-map₂ s (below k (H s) l I) (all-legal s legal) (hyperperiod-is-common-multiple s legal)),
     )
 
--- THEOREM 3: "if it is 3 at I then D(I) times k + 1 is more than k times I"; the demand shown is D(I)
+-- THEOREM: if the verdict is 3 at I, then D(I) times k + 1 is more than k times I; and the demand shown is D(I)
 pub near-overrun-if-superposition-holds-back :
     (k : ℕ) (s : List Element) → AllLegal s → 1 ≤ k → Q s ≤ H s → values (superposition k s) .verdict ≡ 3 →
     NearOverrun k s (values (superposition k s) .interval) × (values (superposition k s) .demand ≡ D s (values (superposition k s) .interval))

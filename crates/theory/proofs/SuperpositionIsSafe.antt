@@ -54,7 +54,7 @@ module _ (k h : ℕ) (s : List Element) (l : 1 ≤ k) (legal : Each s Legal) whe
       next : scaledIn k h s I ≤ h * I → scaledIn k h s (suc I) ≤ h * suc I
       next ih = ⊎-elim (holds (suc I)) (λ o. omega (arith, scaled-rises I o)) (test (isVisited k s (suc I)))
 
--- THEOREM 3: "if superposition's answer is 0 then D(I) is at most I for every I"
+-- THEOREM: if the verdict is 0, then D(I) is at most I for every I
 pub no-overrun-if-superposition-accepts : (k : ℕ) (s : List Element) → AllLegal s → 1 ≤ k → Q s ≤ H s → values (superposition k s) .verdict ≡ 0 → (I : ℕ) → D s I ≤ I
 no-overrun-if-superposition-accepts k s legal l load v I = ⊎-elim
     (λ w. absurd (omega (arith, w .verdict)))

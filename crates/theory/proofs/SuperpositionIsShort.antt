@@ -86,7 +86,7 @@ howMany-some [] t n =
     omega (arith, rw z at (howMany-gap (λ I. false) 0 n (λ I a b. refl)), howMany-zero (λ I. false))
 howMany-some (e ∷ s) t n = omega (arith, howMany-or (t e) (λ I. someOver s (λ e. t e I)) n, howMany-some s t n)
 
--- THEOREM 3: "the visited lengths number at most k for each periodic element and one for each single event", below any n
+-- THEOREM: the visited lengths number at most k for each periodic element and one for each single event, however far one looks
 pub visits-at-most : (k : ℕ) (s : List Element) (n : ℕ) → AllLegal s → 1 ≤ k → howMany (isVisited k s) n ≤ budget k s
 unfolding isVisited budget
 visits-at-most k s n legal l =
@@ -96,7 +96,7 @@ visits-at-most k s n legal l =
       sum-le s (λ e. howMany (λ I. isTestOf e I && leb I (m k e)) n) (λ e. lengthsOf k (e .period)) (each-map s (lengths-of k n l) (all-legal s legal)),
     )
 
--- "the count": so many comparisons at most
+-- THEOREM: so the count is at most that
 pub compares-at-most : (k : ℕ) (s : List Element) → AllLegal s → 1 ≤ k → Q s ≤ H s → values (superposition k s) .count ≤ budget k s
 compares-at-most k s legal l load = ⊎-elim
     (λ w. rw (w .count) (visits-at-most k s _ legal l))

@@ -37,28 +37,27 @@ module _ (k h : ℕ) (l : 1 ≤ k) where
   line-step Once x = omega arith
   line-step (Every p) x = omega arith
 
+  dues-past : (p x : ℕ) → 1 ≤ p → ((k - 1) * p + x) / p + 1 ≡ k + x / p
+  dues-past p x r = let n = mul-add-div-right r (k - 1) x in omega arith
+
   line-above : (q : Period) (x : ℕ) → Runs q → Divides q h → h * dues q (exactPart q k + x) ≤ line q x
   unfolding line
   line-above Once x r d = omega arith
   line-above (Every p) x r d =
-      let n = mul-add-div-right (r .0) (k - 1) x in
-      let e : ((k - 1) * p + x) / p + 1 ≡ k + x / p = omega arith in
       let c = mul-div-cancel' p d in
       let u = mul-le-mul-left (h / p) (div-mul-le-self x p) in
       let v = ap (λ z. z * (x / p)) c in
-      rw e (omega arith)
+      rw (dues-past p x (r .0)) (omega arith)
 
   line-below : (q : Period) (x : ℕ) → Runs q → Divides q h → k * line q x ≤ (k + 1) * (h * dues q (exactPart q k + x))
   unfolding line
   line-below Once x r d = omega arith
   line-below (Every p) x r d =
-      let n = mul-add-div-right (r .0) (k - 1) x in
-      let e : ((k - 1) * p + x) / p + 1 ≡ k + x / p = omega arith in
       let c = mul-div-cancel' p d in
       let u = mul-le-mul-left (k * (h / p)) (lt-div-mul-add {a = x} (r .0)) in
       let v = ap (λ z. k * z * (x / p)) c in
       let w = ap (λ z. k * z) c in
-      rw e (omega arith)
+      rw (dues-past p x (r .0)) (omega arith)
 
   -- UP TO m exact, PAST m the line; at m both
   near-by : (q : Period) (e : Element) (I : ℕ) → I ≤ m k e → scaledBy q k h e I ≡ h * demandOf e I

@@ -2,9 +2,12 @@
 -- elements hold of every verdict given. Assumes nothing.
 use Prim.Native.Nat.{ℕ}
 use mathlib.Core.Path.{_≡_, refl}
+use mathlib.Core.Bool.{Bool}
+use mathlib.Core.List.{List}
 use native.Mathlib.Omega.{arith}
 use lib.Dec.{leb}
 use borrow.Author.Tests.{leb-true}
+use Rattle.model.specs.declared.elements.Element.{Element}
 use Rattle.model.specs.declared.elements.TaskSet.{TaskSet}
 use Rattle.model.specs.declared.answers.Check.{Check}
 use Rattle.model.specs.declared.answers.Check.the-variants.{Fine, TurnedAway}
@@ -15,7 +18,7 @@ use Rattle.model.specs.Elements.{places, mostH, mostK, within, isLegal, counted
 use Rattle.model.specs.Demand.{H}
 use Rattle.model.specs.ExactTest.{exact}
 use Rattle.model.specs.Superposition.{superposition}
-use Rattle.model.specs.TurnedAway.{_then_, checkSet, firstAbove, checkH, checkK, answered, analysis, exactAnswer, superpositionAnswer}
+use Rattle.model.specs.TurnedAway.{_then_, checkSet, firstAbove, checkH, checkK, exactIsLarge, superpositionIsLarge, answered, analysis, exactAnswer, superpositionAnswer}
 use Rattle.theory.specs.Taken.{Taken}
 use Rattle.model.proofs.Cases.{and-left, and-right}
 use Rattle.model.proofs.ElementLaws.{Within, within-is}
@@ -24,6 +27,14 @@ use Rattle.model.proofs.TurnedAwayLaws.{then-fine, unless-fine, set-fine}
 given-fine : (c : Check) (w v : Verdict) → answered c w ≡ Given v → (c ≡ Fine) × (v ≡ w)
 given-fine Fine w v h = (refl, cc)
 given-fine (TurnedAway r) w v h = absurd (let z : _≡_ {A = ℕ} 0 1 = cc in omega arith)
+
+-- a verdict comes after every check, and is the test's own
+verdict-is : (before : Check) (placeOf : ℕ → ℕ) (isTooLarge : List Element → Bool) (verdict : List Element → Verdict) (s : List Element) (v : Verdict) → analysis before placeOf isTooLarge verdict s ≡ Given v → (before ≡ Fine) × (checkH placeOf s ≡ Fine) × (v ≡ verdict s)
+unfolding analysis
+verdict-is before placeOf isTooLarge verdict s v h =
+    let g = given-fine _ (verdict s) v h in
+    let b = then-fine before _ .0 (g .0) in
+    (b .0, then-fine (checkH placeOf s) _ .0 (b .1) .0, g .1)
 
 taken : (t : TaskSet) → checkSet t ≡ Fine → checkH (λ place. place) (counted t) ≡ Fine → Taken t
 unfolding isLegalSet checkH
@@ -35,19 +46,17 @@ taken t c h =
       small = leb-true (H (counted t)) mostH (unless-fine (leb (H (counted t)) mostH) 8 (firstAbove (counted t)) .0 h);
     }
 
+-- THEOREM: an exact verdict
 pub exact-verdict-is : (t : TaskSet) (v : Verdict) → exactAnswer t ≡ Given v → Taken t × (v ≡ exact (counted t))
-unfolding exactAnswer analysis
+unfolding exactAnswer
 exact-verdict-is t v h =
-    let g = given-fine _ (exact (counted t)) v h in
-    let before = then-fine (checkSet t) _ .0 (g .0) in
-    let small = then-fine (checkH (λ place. place) (counted t)) _ .0 (before .1) in
-    (taken t (before .0) (small .0), g .1)
+    let g = verdict-is (checkSet t) (λ place. place) exactIsLarge exact (counted t) v h in
+    (taken t (g .0) (g .1), g .2)
 
+-- THEOREM: a verdict of superposition
 pub superposition-verdict-is : (k : ℕ) (t : TaskSet) (v : Verdict) → superpositionAnswer k t ≡ Given v → Within 1 mostK k × Taken t × (v ≡ superposition k (counted t))
-unfolding superpositionAnswer analysis checkK
+unfolding superpositionAnswer checkK
 superposition-verdict-is k t v h =
-    let g = given-fine _ (superposition k (counted t)) v h in
-    let first = then-fine (checkK k then checkSet t) _ .0 (g .0) in
-    let before = then-fine (checkK k) (checkSet t) .0 (first .0) in
-    let small = then-fine (checkH (λ place. place) (counted t)) _ .0 (first .1) in
-    (within-is 1 mostK k (unless-fine (within 1 mostK k) 9 0 .0 (before .0)), taken t (before .1) (small .0), g .1)
+    let g = verdict-is (checkK k then checkSet t) (λ place. place) (superpositionIsLarge k) (superposition k) (counted t) v h in
+    let b = then-fine (checkK k) (checkSet t) .0 (g .0) in
+    (within-is 1 mostK k (unless-fine (within 1 mostK k) 9 0 .0 (b .0)), taken t (b .1) (g .1), g .2)
