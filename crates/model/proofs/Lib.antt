@@ -4,4 +4,5 @@ pub mod OverLaws
 pub mod ElementLaws
 pub mod TurnedAwayLaws
 pub mod StarredSums
+pub mod EdgesOfTheTables
 pub mod Outcomes

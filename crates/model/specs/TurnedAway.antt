@@ -18,9 +18,12 @@ use Rattle.model.specs.ExactTest.{overloadAt, Lengths, stop, exactLength
 use Rattle.model.specs.Superposition.{HD', superpositionLengths, superposition}
 
 infixr 20 _then_
--- turned away by this number at this place, unless the test passes
+-- by this number, at this place
+abbrev pub turned : ℕ → ℕ → Check
+turned number place = TurnedAway (record { number = number; place = place })
+
 unfoldable pub unless : Bool → ℕ → ℕ → Check
-unless passes number place = cond passes Fine (TurnedAway (record { number = number; place = place }))
+unless passes number place = cond passes Fine (turned number place)
 
 -- the checks in order: the first that turns away decides
 abbrev pub _then_ : Check → Check → Check
