@@ -11,28 +11,36 @@ use Rattle.model.specs.declared.elements.Element.{Element}
 use Rattle.model.specs.declared.elements.TaskSet.{TaskSet}
 use Rattle.model.specs.Over.{allOver}
 
+-- THE TABLE OF ALLOWED VALUES
+-- "period: 1 to 16,777,216"
 abbrev pub mostPeriod : ℕ
 mostPeriod = 16777216
 
+-- "offset: 0 to 16,777,216"
 abbrev pub mostOffset : ℕ
 mostOffset = 16777216
 
+-- "deadline: 1 to 16,777,216, also above the period"
 abbrev pub mostDeadline : ℕ
 mostDeadline = 16777216
 
+-- "cost: 1 to 16,777,216, also above the period or deadline"
 abbrev pub mostCost : ℕ
 mostCost = 16777216
 
--- "A set in memory is a count and a table of 128 places."
+-- "elements in a set: 0 to 128"; "a set in memory is a count and a table of 128 places"
 abbrev pub places : ℕ
 places = 128
 
+-- "hyperperiod H: at most 1,073,741,824"
 abbrev pub mostH : ℕ
 mostH = 1073741824
 
+-- "k: 1 to 255"
 abbrev pub mostK : ℕ
 mostK = 255
 
+-- from low to high
 unfoldable pub within : ℕ → ℕ → ℕ → Bool
 within low high x = leb low x && leb x high
 
@@ -50,7 +58,7 @@ isDeadline d = within 1 mostDeadline d
 unfoldable pub isCost : ℕ → Bool
 isCost c = within 1 mostCost c
 
--- a legal element
+-- A LEGAL ELEMENT keeps to each row that it has
 unfoldable pub isLegal : Element → Bool
 isLegal e = isPeriod (e .period) && isOffset (e .offset) && isDeadline (e .deadline) && isCost (e .cost)
 
@@ -66,7 +74,7 @@ filler = record { period = Once; offset = 0; deadline = 0; cost = 0 }
 abbrev pub counted : TaskSet → List Element
 counted t = take (t .count) (t .table)
 
--- a legal set
+-- A LEGAL SET
 unfoldable pub isLegalSet : TaskSet → Bool
 isLegalSet t = leb (t .count) places && allOver (counted t) isLegal
 
