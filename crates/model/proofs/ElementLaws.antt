@@ -37,7 +37,9 @@ period-is Once h = tt
 period-is (Every p) h = within-is 1 mostPeriod p h
 
 -- a legal element's four tests, and back
-pub legal-parts : (e : Element) → (isLegal e ≡ true) ↔ ((isPeriod (e .period) ≡ true) × (isOffset (e .offset) ≡ true) × (isDeadline (e .deadline) ≡ true) × (isCost (e .cost) ≡ true))
+pub legal-parts :
+    (e : Element) →
+    (isLegal e ≡ true) ↔ ((isPeriod (e .period) ≡ true) × (isOffset (e .offset) ≡ true) × (isDeadline (e .deadline) ≡ true) × (isCost (e .cost) ≡ true))
 unfolding isLegal
 legal-parts e =
     let p = isPeriod (e .period) in

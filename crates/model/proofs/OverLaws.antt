@@ -59,7 +59,9 @@ module _ {A : Type 0} where
   some-at [] t d h = absurd (clash h refl)
   some-at (e ∷ s) t d h = go (some-at s t d) (or-cases (t e) (someOver s t) h)
     where
-      go : (someOver s t ≡ true → (i : ℕ) × (i < length s) × (t (getD s i d) ≡ true)) → (t e ≡ true) ⊎ (someOver s t ≡ true) → (i : ℕ) × (i < suc (length s)) × (t (getD (e ∷ s) i d) ≡ true)
+      go :
+          (someOver s t ≡ true → (i : ℕ) × (i < length s) × (t (getD s i d) ≡ true)) → (t e ≡ true) ⊎ (someOver s t ≡ true) →
+          (i : ℕ) × (i < suc (length s)) × (t (getD (e ∷ s) i d) ≡ true)
       go rest (inl p) = (0, omega arith, p)
       go rest (inr p) = let r = rest p in (suc (r .0), omega (arith, r .1), r .2)
 

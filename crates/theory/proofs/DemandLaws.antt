@@ -36,7 +36,8 @@ dues-repeats (Every p) x h r d =
     let e = add-mul-div-left x (h / p) (r .0) in
     omega (arith, rw (mul-div-cancel' p d) at e)
 
-pub demandOf-repeats : (I h : ℕ) (e : Element) → Legal e → Divides (e .period) h → f e ≤ I → demandOf e (I + h) ≡ demandOf e I + e .cost * turns (e .period) h
+pub demandOf-repeats :
+    (I h : ℕ) (e : Element) → Legal e → Divides (e .period) h → f e ≤ I → demandOf e (I + h) ≡ demandOf e I + e .cost * turns (e .period) h
 demandOf-repeats I h e l d b =
     let x : I + h - f e ≡ (I - f e) + h = omega arith in
     let n = ap (dues (e .period)) x ∙ dues-repeats (e .period) (I - f e) h (l .period) d in

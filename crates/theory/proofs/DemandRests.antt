@@ -23,7 +23,8 @@ demand-rests s I legal o =
     (each-map₂ s (demandOf-rests I) (all-legal s legal) (none-each s (λ e. isTestOf e (suc I)) o))
 
 -- THEOREM: D changes only at test lengths. It is the same at I and n ticks later, where no test length is past I and up to there
-pub demand-changes-only-at-test-lengths : (s : List Element) (I n : ℕ) → AllLegal s → ((J : ℕ) → I < J → J ≤ I + n → isTest s J ≡ false) → D s (I + n) ≡ D s I
+pub demand-changes-only-at-test-lengths :
+    (s : List Element) (I n : ℕ) → AllLegal s → ((J : ℕ) → I < J → J ≤ I + n → isTest s J ≡ false) → D s (I + n) ≡ D s I
 demand-changes-only-at-test-lengths s I zero legal quiet = ap (D s) (let e : I + 0 ≡ I = omega arith in e)
 demand-changes-only-at-test-lengths s I (suc n) legal quiet =
     let e : I + suc n ≡ suc (I + n) = omega arith in

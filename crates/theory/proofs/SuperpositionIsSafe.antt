@@ -55,7 +55,8 @@ module _ (k h : ℕ) (s : List Element) (l : 1 ≤ k) (legal : Each s Legal) whe
       next ih = ⊎-elim (holds (suc I)) (λ o. omega (arith, scaled-rises I o)) (test (isVisited k s (suc I)))
 
 -- THEOREM: if the verdict is 0, then D(I) is at most I for every I
-pub no-overrun-if-superposition-accepts : (k : ℕ) (s : List Element) → AllLegal s → 1 ≤ k → Q s ≤ H s → values (superposition k s) .verdict ≡ 0 → (I : ℕ) → D s I ≤ I
+pub no-overrun-if-superposition-accepts :
+    (k : ℕ) (s : List Element) → AllLegal s → 1 ≤ k → Q s ≤ H s → values (superposition k s) .verdict ≡ 0 → (I : ℕ) → D s I ≤ I
 no-overrun-if-superposition-accepts k s legal l load v I = ⊎-elim
     (λ w. absurd (omega (arith, w .verdict)))
     (λ w. let b = nowhere-above k (H s) s l (all-legal s legal) load (w .holds) I in

@@ -105,7 +105,9 @@ module _ (k h : ℕ) (l : 1 ≤ k) where
       (lt-or-le I (m k e))
 
   -- it RISES in a tick by its part of the load at most, but at a visited length
-  pub rises : (I : ℕ) (e : Element) → Legal e → (isTestOf e (suc I) && leb (suc I) (m k e)) ≡ false → scaledBy (e .period) k h e (suc I) ≤ scaledBy (e .period) k h e I + e .cost * turns (e .period) h
+  pub rises :
+      (I : ℕ) (e : Element) → Legal e → (isTestOf e (suc I) && leb (suc I) (m k e)) ≡ false →
+      scaledBy (e .period) k h e (suc I) ≤ scaledBy (e .period) k h e I + e .cost * turns (e .period) h
   rises I e g o = ⊎-elim
       (λ b. let o₁ = rw (le-leb (suc I) (m k e) b, and-true) at o in
       omega (arith, near e (suc I) b, near e I (omega arith), ap (λ z. h * z) (demandOf-rests I e g o₁)))

@@ -29,7 +29,9 @@ given-fine Fine w v h = (refl, cc)
 given-fine (TurnedAway r) w v h = absurd (let z : _≡_ {A = ℕ} 0 1 = cc in omega arith)
 
 -- a verdict comes after every check, and is the test's own
-verdict-is : (before : Check) (placeOf : ℕ → ℕ) (isTooLarge : List Element → Bool) (verdict : List Element → Verdict) (s : List Element) (v : Verdict) → analysis before placeOf isTooLarge verdict s ≡ Given v → (before ≡ Fine) × (checkH placeOf s ≡ Fine) × (v ≡ verdict s)
+verdict-is :
+    (before : Check) (placeOf : ℕ → ℕ) (isTooLarge : List Element → Bool) (verdict : List Element → Verdict) (s : List Element) (v : Verdict) →
+    analysis before placeOf isTooLarge verdict s ≡ Given v → (before ≡ Fine) × (checkH placeOf s ≡ Fine) × (v ≡ verdict s)
 unfolding analysis
 verdict-is before placeOf isTooLarge verdict s v h =
     let g = given-fine _ (verdict s) v h in
@@ -54,7 +56,8 @@ exact-verdict-is t v h =
     (taken t (g .0) (g .1), g .2)
 
 -- THEOREM: a verdict of superposition
-pub superposition-verdict-is : (k : ℕ) (t : TaskSet) (v : Verdict) → superpositionAnswer k t ≡ Given v → Within 1 mostK k × Taken t × (v ≡ superposition k (counted t))
+pub superposition-verdict-is :
+    (k : ℕ) (t : TaskSet) (v : Verdict) → superpositionAnswer k t ≡ Given v → Within 1 mostK k × Taken t × (v ≡ superposition k (counted t))
 unfolding superpositionAnswer checkK
 superposition-verdict-is k t v h =
     let g = verdict-is (checkK k then checkSet t) (λ place. place) (superpositionIsLarge k) (superposition k) (counted t) v h in
