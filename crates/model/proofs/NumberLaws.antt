@@ -104,15 +104,6 @@ module _ (t : ℕ → Bool) where
   unfolding howMany
   howMany-zero = refl
 
-  pub howMany-one : (n : ℕ) → howMany t (suc n) ≤ howMany t n + 1
-  unfolding howMany
-  howMany-one n = ⊎-elim (λ h. rw h (omega arith)) (λ h. rw h (omega arith)) (test (t n))
-
-  pub howMany-rises : (n i : ℕ) → howMany t n ≤ howMany t (n + i)
-  unfolding howMany
-  howMany-rises n zero = let e : n ≡ n + 0 = omega arith in rw (← e) (omega arith)
-  howMany-rises n (suc i) = let e : n + suc i ≡ suc (n + i) = omega arith in rw e (omega (arith, howMany-rises n i))
-
   -- none passes from n on, for i numbers
   pub howMany-gap : (n i : ℕ) → ((j : ℕ) → n ≤ j → j < n + i → t j ≡ false) → howMany t (n + i) ≡ howMany t n
   unfolding howMany
