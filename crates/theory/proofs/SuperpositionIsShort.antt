@@ -5,7 +5,7 @@ use mathlib.Core.Bool.{Bool, true, false, _&&_, _||_, or-true}
 use mathlib.Core.List.{List, [], _∷_}
 use mathlib.Core.Logic.{⊎-elim}
 use native.Mathlib.Omega.{arith}
-use native.Mathlib.Nat.{mul-le-mul-right}
+use native.Mathlib.Nat.{le-of-mul-le-mul-left, lt-of-mul-lt-mul-left}
 use lib.Dec.{leb, eqb}
 use borrow.Author.Tests.{le-leb, leb-true, eq-eqb, eqb-true}
 use Rattle.model.specs.declared.elements.Period.{Period}
@@ -43,13 +43,9 @@ module _ (e : Element) (p : ℕ) (eq : e .period ≡ Every p) (r : 1 ≤ p) wher
       (λ (l : f e + j * p < I).
       let d = rw eq at (up-to-test e (f e + suc j * p) I t) in
       let b = up-to-limit e (f e + suc j * p) I t in
-      let i = ⊎-elim {C = d .0 ≡ suc j}
-      (λ (g : d .0 < suc j). absurd (omega (arith, d .1, mul-le-mul-right p (let x : d .0 ≤ j = omega arith in x))))
-      (λ (g : suc j ≤ d .0). ⊎-elim
-      (λ (w : suc j < d .0). absurd (omega (arith, d .1, mul-le-mul-right p w)))
-      (λ (w : d .0 ≤ suc j). omega arith)
-      (lt-or-le (suc j) (d .0)))
-      (lt-or-le (d .0) (suc j)) in
+      let low : j < d .0 = lt-of-mul-lt-mul-left p (omega (arith, d .1)) in
+      let high : d .0 ≤ suc j = le-of-mul-le-mul-left (omega (arith, d .1)) r in
+      let i : d .0 ≡ suc j = omega arith in
       rw (eq-eqb I (f e + suc j * p) (omega (arith, d .1, ap (λ z. z * p) i))) (or-true (upTo e (f e + j * p) I)))
       (λ (l : I ≤ f e + j * p). rw (and-both (isTestOf e I) (leb I (f e + j * p)) (and-left (isTestOf e I) (leb I (f e + suc j * p)) t) (le-leb I (f e + j * p) l)))
       (lt-or-le (f e + j * p) I)
