@@ -1,16 +1,20 @@
 -- Laws of specs/Elements: the allowed values as numbers. Assumes nothing.
-use Prim.Native.Nat.{ℕ, _≤_}
+use Prim.Native.Nat.{ℕ, _≤_, _<_}
 use mathlib.Core.Path.{_≡_}
 use mathlib.Core.Bool.{true, _&&_}
 use mathlib.Core.List.{List}
 use mathlib.Core.Logic.{_↔_}
+use native.Mathlib.Omega.{arith}
 use lib.Dec.{leb}
+use lib.ListN.{length, getD}
+use lib.Seq.{getD-take, length-take-le}
 use borrow.Author.Tests.{leb-true}
 use Rattle.model.specs.declared.elements.Period.{Period}
 use Rattle.model.specs.declared.elements.Period.the-variants.{Once, Every}
 use Rattle.model.specs.declared.elements.Element.{Element}
+use Rattle.model.specs.declared.elements.TaskSet.{TaskSet}
 use Rattle.model.specs.Over.{Each}
-use Rattle.model.specs.Elements.{mostPeriod, mostOffset, mostDeadline, mostCost, within, isPeriod, isOffset, isDeadline, isCost, isLegal, AllLegal}
+use Rattle.model.specs.Elements.{mostPeriod, mostOffset, mostDeadline, mostCost, places, within, isPeriod, isOffset, isDeadline, isCost, isLegal, AllLegal, counted}
 use Rattle.model.proofs.Cases.{and-left, and-right}
 use Rattle.model.proofs.OverLaws.{all-each, each-map}
 
@@ -65,3 +69,11 @@ legal-is e h =
 
 pub all-legal : (s : List Element) → AllLegal s → Each s Legal
 all-legal s h = each-map s legal-is (all-each s isLegal h)
+
+-- the counted places of a table
+module _ (t : TaskSet) (long : length (t .table) ≡ places) (few : t .count ≤ places) where
+  pub counted-long : length (counted t) ≡ t .count
+  counted-long = length-take-le (t .count) (t .table) (omega arith)
+
+  pub counted-at : (d : Element) (i : ℕ) → i < t .count → getD (counted t) i d ≡ getD (t .table) i d
+  counted-at d i h = getD-take (t .count) (t .table) i d h

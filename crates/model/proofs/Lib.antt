@@ -3,6 +3,7 @@ pub mod NumberLaws
 pub mod OverLaws
 pub mod ElementLaws
 pub mod TurnedAwayLaws
+pub mod CheckingASet
 pub mod StarredSums
 pub mod EdgesOfTheTables
 pub mod Outcomes

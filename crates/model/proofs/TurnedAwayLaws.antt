@@ -1,11 +1,13 @@
--- Laws of specs/TurnedAway: a check is fine exactly when each of its parts is. Assumes nothing.
-use Prim.Native.Nat.{ℕ, suc}
+-- Laws of specs/TurnedAway: a check is fine exactly when each of its parts is; the checks from one element on. Assumes nothing.
+use Prim.Native.Nat.{ℕ, suc, _<_}
 use mathlib.Core.Path.{_≡_, refl}
 use mathlib.Core.Bool.{Bool, true, false}
 use mathlib.Core.List.{List, [], _∷_}
 use mathlib.Core.Logic.{_↔_}
 use native.Mathlib.Omega.{arith}
 use lib.Dec.{leb}
+use lib.ListN.{length, getD, drop}
+use lib.Seq.{drop-cons}
 use Rattle.model.specs.declared.elements.Element.{Element}
 use Rattle.model.specs.declared.elements.TaskSet.{TaskSet}
 use Rattle.model.specs.declared.answers.Refusal.{Refusal}
@@ -53,6 +55,14 @@ elements-fine place (e ∷ s) =
       λ h. let g = then-fine (checkElement place e) (checkElements (suc place) s) .0 h in rw (one .0 (g .0), rest .0 (g .1)),
       λ h. rw (one .1 (and-left (isLegal e) (allOver s isLegal) h), rest .1 (and-right (isLegal e) (allOver s isLegal) h)),
     )
+
+-- the checks from the element at i on
+pub elements-from :
+    (s : List Element) (d : Element) (i : ℕ) →
+    i < length s →
+    checkElements i (drop i s) ≡ (checkElement i (getD s i d) then checkElements (suc i) (drop (suc i) s))
+unfolding checkElements
+elements-from s d i h = rw (drop-cons s i d h)
 
 pub set-fine : (t : TaskSet) → (checkSet t ≡ Fine) ↔ (isLegalSet t ≡ true)
 unfolding checkSet isLegalSet

@@ -1,5 +1,6 @@
 // Document 01's types: a set of event stream elements, and the answer of an analysis. specs/ says what they mean.
 pub mod answers;
+pub mod checks;
 pub mod elements;
 
 pub use answers::Answer;
