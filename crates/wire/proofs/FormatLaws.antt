@@ -1,0 +1,41 @@
+-- Laws of specs/Format. Assumes nothing.
+use Prim.Native.Nat.{ℕ, suc, _≤_}
+use mathlib.Core.Path.{_≡_}
+use mathlib.Core.Bool.{true}
+use mathlib.Core.List.{List}
+use mathlib.Core.Logic.{_⊎_, inl, inr, ⊎-elim}
+use native.Mathlib.Omega.{arith}
+use lib.Dec.{eqb}
+use lib.ListN.{length}
+use borrow.Author.Tests.{eq-eqb, ne-eqb, eqb-true}
+use Rattle.model.specs.declared.elements.Period.the-variants.{Once, Every}
+use Rattle.model.proofs.Cases.{or-cases}
+use Rattle.wire.specs.Format.{numberAt, kindOf, isKind, bodySize, recordSize, elementAt, elementOf}
+
+-- KINDS
+pub known-kinds : (kind : ℕ) → isKind kind ≡ true → (kind ≡ 1) ⊎ (kind ≡ 2)
+unfolding isKind
+known-kinds kind h = ⊎-elim (λ p. inl (eqb-true kind 1 p)) (λ p. inr (eqb-true kind 2 p)) (or-cases (eqb kind 1) (eqb kind 2) h)
+
+module _ (s : List ℕ) where
+  pub some-size : 1 ≤ recordSize s
+  unfolding recordSize
+  some-size = omega arith
+
+  module _ (h : kindOf s ≡ 1) where
+    pub every-size : recordSize s ≡ 17
+    unfolding recordSize bodySize
+    every-size = simp (eq-eqb (kindOf s) 1 h)
+
+    pub every-element : elementOf s ≡ elementAt s (Every (numberAt s 1)) 5
+    unfolding elementOf
+    every-element = simp (eq-eqb (kindOf s) 1 h)
+
+  module _ (h : isKind (kindOf s) ≡ true) (n : kindOf s ≡ 1 → ⊥) where
+    pub once-size : recordSize s ≡ 13
+    unfolding recordSize bodySize
+    once-size = let k = ⊎-elim (λ p. absurd (n p)) (λ p. p) (known-kinds (kindOf s) h) in simp (ne-eqb (kindOf s) 1 n, eq-eqb (kindOf s) 2 k)
+
+    pub once-element : elementOf s ≡ elementAt s Once 1
+    unfolding elementOf
+    once-element = simp (ne-eqb (kindOf s) 1 n)

@@ -1,0 +1,84 @@
+-- Laws of specs/Format and specs/Writing: stores that follow one another, sizes, and the records up to one more. Assumes nothing.
+use Prim.Native.Nat.{ℕ, suc, _+_, _≤_, _<_}
+use mathlib.Core.Path.{_≡_, refl, sym, ap, _∙_}
+use mathlib.Core.List.{List, [], _∷_, _++_, append-assoc, append-nil}
+use native.Mathlib.Omega.{arith}
+use native.Mathlib.Numerals.{add-one}
+use lib.ListN.{length, set, take, drop, getD, length-append, take-append-drop}
+use lib.Seq.{sets, take-suc}
+use Rattle.model.specs.declared.elements.Period.{Period}
+use Rattle.model.specs.declared.elements.Period.the-variants.{Once, Every}
+use Rattle.model.specs.declared.elements.Element.{Element}
+use Rattle.wire.specs.Format.{numberBytes, startOf, recordOf, recordsOf}
+
+-- STORES that follow one another
+pub sets-append : (xs ys l : List ℕ) (i n : ℕ) → n ≡ i + length xs → sets (sets l i xs) n ys ≡ sets l i (xs ++ ys)
+sets-append [] ys l i n h = let same : n ≡ i = omega arith in ap (λ k. sets l k ys) same
+sets-append (x ∷ xs) ys l i n h = sets-append xs ys (set l i x) (suc i) n (omega arith)
+
+-- as two calls leave them
+pub two-runs :
+    (l₀ l₁ l₂ xs ys : List ℕ) (i n : ℕ) →
+    l₁ ≡ sets l₀ i xs →
+    l₂ ≡ sets l₁ n ys →
+    n ≡ i + length xs →
+    l₂ ≡ sets l₀ i (xs ++ ys)
+two-runs l₀ l₁ l₂ xs ys i n p q h = q ∙ ap (λ l. sets l n ys) p ∙ sets-append xs ys l₀ i n h
+
+-- SIZES
+pub number-length : (x : ℕ) → length (numberBytes x) ≡ 4
+unfolding numberBytes
+number-length x = refl
+
+pub two-length : (a b : ℕ) → length (numberBytes a ++ numberBytes b) ≡ 8
+two-length a b = rw (length-append, number-length a, number-length b)
+
+three-length : (a b c : ℕ) → length (numberBytes a ++ numberBytes b ++ numberBytes c) ≡ 12
+three-length a b c = rw (length-append, two-length a b, number-length c)
+
+pub once-start : (q : Period) → q ≡ Once → startOf q ≡ 2 ∷ []
+unfolding startOf
+once-start q h = rw h
+
+pub every-start : (q : Period) (p : ℕ) → q ≡ Every p → startOf q ≡ (1 ∷ []) ++ numberBytes p
+unfolding startOf
+every-start q p h = rw h
+
+pub every-length : (q : Period) (p : ℕ) → q ≡ Every p → length (startOf q) ≡ 5
+every-length q p h = rw (every-start q p h, length-append, number-length p)
+
+pub start-length : (q : Period) → (1 ≤ length (startOf q)) × (length (startOf q) ≤ 5)
+start-length Once = rw (once-start Once refl) (omega arith, omega arith)
+start-length (Every p) = rw (every-length (Every p) p refl) (omega arith, omega arith)
+
+pub record-length : (e : Element) → length (recordOf e) ≡ length (startOf (e .period)) + 12
+unfolding recordOf
+record-length e = rw (length-append, three-length (e .offset) (e .deadline) (e .cost))
+
+-- THE RECORDS up to one element more
+pub records-append : (s t : List Element) → recordsOf (s ++ t) ≡ recordsOf s ++ recordsOf t
+unfolding recordsOf
+records-append [] t = refl
+records-append (e ∷ s) t = rw (records-append s t) (sym (append-assoc (recordOf e) (recordsOf s) (recordsOf t)))
+
+one-record : (e : Element) → recordsOf (e ∷ []) ≡ recordOf e
+unfolding recordsOf
+one-record e = append-nil (recordOf e)
+
+pub records-step :
+    (s : List Element) (d : Element) (i : ℕ) →
+    i < length s →
+    recordsOf (take (i + 1) s) ≡ recordsOf (take i s) ++ recordOf (getD s i d)
+records-step s d i h = rw (add-one, take-suc s i d h, records-append, one-record)
+
+pub length-step :
+    (s : List Element) (d : Element) (i : ℕ) →
+    i < length s →
+    length (recordsOf (take (i + 1) s)) ≡ length (recordsOf (take i s)) + length (recordOf (getD s i d))
+length-step s d i h = rw (records-step s d i h, length-append)
+
+-- the first i records lie within all of them
+pub records-within : (s : List Element) (i : ℕ) → length (recordsOf (take i s)) ≤ length (recordsOf s)
+records-within s i =
+    let cut : recordsOf s ≡ recordsOf (take i s) ++ recordsOf (drop i s) = sym (ap recordsOf (take-append-drop i s)) ∙ records-append (take i s) (drop i s) in
+    omega (arith, simp length-append at (ap length cut))

@@ -1,0 +1,77 @@
+-- `wire::reading::read_set` meets its contract. Assumes nothing.
+use mathlib.Core.Path.{sym, _∙_}
+use native.Mathlib.Omega.{arith}
+use lib.ListN.{length}
+use borrow.Author.Needs.{needs}
+use Rattle.wire.proofs.ReadingASet.{Reading, start, count-is, stop, room, next, less}
+use Rattle.wire.proofs.reading.read_set.Statement.{statement}
+use Rattle.wire.proofs.reading.read_set.Tie as tie
+
+abbrev Inv-loop : tie.InvT-loop
+Inv-loop bytes set₀ left₀ set left = Reading bytes set left
+
+abbrev μ-loop : tie.MeasureT-loop
+μ-loop bytes set₀ left₀ set left = length left
+
+empty-set-requires : tie.Need-empty-set-requires Inv-loop μ-loop
+empty-set-requires c κs = search needs
+
+loop-holds : tie.Need-loop-holds Inv-loop μ-loop
+loop-holds c = rw (c .empty-set .ensures) (start _)
+
+sub-place : tie.Need-sub-place Inv-loop μ-loop
+sub-place c = c .loop .inv .within
+
+sub-read-next : tie.Need-sub-read-next Inv-loop μ-loop
+sub-read-next c = omega (arith, c .loop .inv .few, count-is _ _ _ (c .loop .inv))
+
+read-next-requires : tie.Need-read-next-requires Inv-loop μ-loop
+read-next-requires c κs = search needs
+
+enum-known-found : tie.Need-enum-known-found Inv-loop μ-loop
+enum-known-found c = search needs
+
+hand-back-requires : tie.Need-hand-back-requires Inv-loop μ-loop
+hand-back-requires c κs = search needs
+
+returns : tie.Need-returns Inv-loop μ-loop
+returns c = c .hand-back .ensures ∙ stop _ _ _ (c .before .before .before .loop .inv) _ (sym (c .before .before .read-next .ensures)) (c .before .match .keys2)
+
+mul-e : tie.Need-mul-e Inv-loop μ-loop
+mul-e c = omega (arith, room _ _ _ (c .before .before .before .before .loop .inv) (sym (c .before .before .before .read-next .ensures) ∙ c .before .found .given .1))
+
+element-set-from-e : tie.Need-element-set-from-e Inv-loop μ-loop
+element-set-from-e c = room _ _ _ (c .before .before .before .before .loop .inv) (sym (c .before .before .before .read-next .ensures) ∙ c .before .found .given .1)
+
+add-set : tie.Need-add-set Inv-loop μ-loop
+add-set c = omega (arith, room _ _ _ (c .before .before .before .before .loop .inv) (sym (c .before .before .before .read-next .ensures) ∙ c .before .found .given .1))
+
+rest-requires : tie.Need-rest-requires Inv-loop μ-loop
+rest-requires c κs = search needs
+
+loop-less : tie.Need-loop-less Inv-loop μ-loop
+loop-less c = rw (c .rest .ensures .bytes) (less _ _ _ (c .before .before .before .before .before .loop .inv) (sym (c .before .before .before .before .read-next .ensures) ∙ c .before .before .found .given .1))
+
+loop-again : tie.Need-loop-again Inv-loop μ-loop
+loop-again c = rw (c .rest .ensures .bytes) (next _ _ _ (c .before .before .before .before .before .loop .inv) (sym (c .before .before .before .before .read-next .ensures) ∙ c .before .before .found .given .1))
+
+pub read-set-spec : {M : Type 1} → statement M
+read-set-spec =
+    tie.close
+    (tie.spec
+    Inv-loop
+    μ-loop
+    empty-set-requires
+    loop-holds
+    sub-place
+    sub-read-next
+    read-next-requires
+    enum-known-found
+    hand-back-requires
+    returns
+    mul-e
+    element-set-from-e
+    add-set
+    rest-requires
+    loop-less
+    loop-again)

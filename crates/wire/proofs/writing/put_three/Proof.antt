@@ -1,0 +1,45 @@
+-- `wire::writing::put_three` meets its contract. Assumes nothing.
+use Prim.Native.Nat.{_+_}
+use mathlib.Core.List.{_++_}
+use native.Mathlib.Omega.{arith}
+use borrow.Author.Needs.{needs}
+use Rattle.wire.specs.Format.{numberBytes}
+use Rattle.wire.proofs.WritingLaws.{two-runs, number-length, two-length}
+use Rattle.wire.proofs.writing.put_three.Statement.{statement}
+use Rattle.wire.proofs.writing.put_three.Tie as tie
+
+put-number-requires : tie.Need-put-number-requires
+put-number-requires c κs = search needs
+
+add-put-number : tie.Need-add-put-number
+add-put-number c = search needs
+
+put-number-requires-2 : tie.Need-put-number-requires-2
+put-number-requires-2 c κs = search needs
+
+add-put-number-2 : tie.Need-add-put-number-2
+add-put-number-2 c = search needs
+
+put-number-requires-3 : tie.Need-put-number-requires-3
+put-number-requires-3 c κs = search needs
+
+same-length : tie.Need-same-length
+same-length c = search needs
+
+returns : tie.Need-returns
+returns c =
+    let a = c .before .before .before .before .before .before .before .before .before .before .before .before .before .args in
+    let two = two-runs (a .out .now) _ _ (numberBytes (a .a)) (numberBytes (a .b)) (a .at) (a .at + 4) (c .before .before .before .before .before .before .before .before .before .before .put-number .ensures) (c .before .before .before .before .before .before .put-number2 .ensures) (omega (arith, number-length (a .a))) in
+    two-runs (a .out .now) _ _ (numberBytes (a .a) ++ numberBytes (a .b)) (numberBytes (a .c)) (a .at) (a .at + 8) two (c .before .before .put-number3 .ensures) (omega (arith, two-length (a .a) (a .b)))
+
+pub put-three-spec : {M : Type 1} → statement M
+put-three-spec =
+    tie.close
+    (tie.spec
+    put-number-requires
+    add-put-number
+    put-number-requires-2
+    add-put-number-2
+    put-number-requires-3
+    same-length
+    returns)

@@ -1,0 +1,43 @@
+-- Document 01, "The set as bytes": writing a set; with its part of "What is turned away".
+use Prim.Native.Nat.{ℕ}
+use mathlib.Core.List.{List, _++_}
+use lib.Dec.{leb}
+use lib.ListN.{length, drop}
+use Rattle.model.specs.declared.elements.TaskSet.{TaskSet}
+use Rattle.model.specs.declared.answers.Check.{Check}
+use Rattle.model.specs.declared.answers.Check.the-variants.{Fine, TurnedAway}
+use Rattle.model.specs.Elements.{counted}
+use Rattle.model.specs.TurnedAway.{unless, _then_, checkSet}
+use Rattle.wire.specs.declared.writing.Written.{Written}
+use Rattle.wire.specs.declared.writing.Written.the-variants.{Bytes, Refused}
+use Rattle.wire.specs.Format.{recordsOf}
+
+-- "The writer puts records in table order and nothing else"
+abbrev pub bytesOf : TaskSet → List ℕ
+bytesOf t = recordsOf (counted t)
+
+-- count and values, then 10: "buffer shorter than the written set", place "bytes needed"
+unfoldable pub checkWrite : TaskSet → ℕ → Check
+checkWrite t room = checkSet t then unless (leb (length (bytesOf t)) room) 10 (length (bytesOf t))
+
+-- "and answers the number of bytes written"
+abbrev pub writtenBy : Check → ℕ → Written
+writtenBy Fine n = Bytes n
+writtenBy (TurnedAway r) n = Refused r
+
+-- the answer, for a buffer of this many bytes
+unfoldable pub writeSet : TaskSet → ℕ → Written
+writeSet t room = writtenBy (checkWrite t room) (length (bytesOf t))
+
+-- these bytes at the start of a buffer; "bytes of its buffer past the end stay"
+abbrev pub over : List ℕ → List ℕ → List ℕ
+over s out = s ++ drop (length s) out
+
+-- "a refused write leaves the buffer untouched"
+abbrev pub leftBy : Check → List ℕ → List ℕ → List ℕ
+leftBy Fine s out = over s out
+leftBy (TurnedAway r) s out = out
+
+-- the buffer as the writer leaves it
+unfoldable pub bufferAfter : TaskSet → List ℕ → List ℕ
+bufferAfter t out = leftBy (checkWrite t (length out)) (bytesOf t) out
