@@ -8,13 +8,13 @@ use native.Mathlib.Omega.{arith}
 use lib.Dec.{leb}
 use lib.ListN.{length, getD}
 use lib.Seq.{getD-take, length-take-le}
-use borrow.Author.Tests.{leb-true}
+use borrow.Author.Tests.{leb-true, le-leb}
 use Rattle.model.specs.declared.elements.Period.{Period}
 use Rattle.model.specs.declared.elements.Period.the-variants.{Once, Every}
 use Rattle.model.specs.declared.elements.Element.{Element}
 use Rattle.model.specs.declared.elements.TaskSet.{TaskSet}
-use Rattle.model.specs.Over.{Each}
-use Rattle.model.specs.Elements.{mostPeriod, mostOffset, mostDeadline, mostCost, places, within, isPeriod, isOffset, isDeadline, isCost, isLegal, AllLegal, counted}
+use Rattle.model.specs.Over.{allOver, Each}
+use Rattle.model.specs.Elements.{mostPeriod, mostOffset, mostDeadline, mostCost, places, within, isPeriod, isOffset, isDeadline, isCost, isLegal, AllLegal, counted, isLegalSet}
 use Rattle.model.proofs.Cases.{and-left, and-right}
 use Rattle.model.proofs.OverLaws.{all-each, each-map}
 
@@ -69,6 +69,14 @@ legal-is e h =
 
 pub all-legal : (s : List Element) → AllLegal s → Each s Legal
 all-legal s h = each-map s legal-is (all-each s isLegal h)
+
+-- a legal set as a count and its elements, and back
+pub legal-set : (t : TaskSet) → (isLegalSet t ≡ true) ↔ ((t .count ≤ places) × AllLegal (counted t))
+unfolding isLegalSet
+legal-set t =
+    let few = leb (t .count) places in
+    let all = allOver (counted t) isLegal in
+    (λ h. (leb-true (t .count) places (and-left few all h), and-right few all h), λ h. rw (le-leb (t .count) places (h .0)) (h .1))
 
 -- the counted places of a table
 module _ (t : TaskSet) (long : length (t .table) ≡ places) (few : t .count ≤ places) where

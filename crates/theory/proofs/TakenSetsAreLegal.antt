@@ -13,15 +13,13 @@ use Rattle.model.specs.declared.answers.Check.{Check}
 use Rattle.model.specs.declared.answers.Check.the-variants.{Fine, TurnedAway}
 use Rattle.model.specs.declared.answers.Verdict.{Verdict}
 use Rattle.model.specs.declared.answers.Answer.the-variants.{Given}
-use Rattle.model.specs.Over.{allOver}
-use Rattle.model.specs.Elements.{places, mostH, mostK, within, isLegal, counted, isLegalSet}
+use Rattle.model.specs.Elements.{mostH, mostK, within, counted}
 use Rattle.model.specs.Demand.{H}
 use Rattle.model.specs.ExactTest.{exact}
 use Rattle.model.specs.Superposition.{superposition}
 use Rattle.model.specs.TurnedAway.{_then_, checkSet, firstAbove, checkH, checkK, exactIsLarge, superpositionIsLarge, answered, analysis, exactAnswer, superpositionAnswer}
 use Rattle.theory.specs.Taken.{Taken}
-use Rattle.model.proofs.Cases.{and-left, and-right}
-use Rattle.model.proofs.ElementLaws.{Within, within-is}
+use Rattle.model.proofs.ElementLaws.{Within, within-is, legal-set}
 use Rattle.model.proofs.TurnedAwayLaws.{then-fine, unless-fine, set-fine}
 
 given-fine : (c : Check) (w v : Verdict) → answered c w ≡ Given v → (c ≡ Fine) × (v ≡ w)
@@ -39,12 +37,12 @@ verdict-is before placeOf isTooLarge verdict s v h =
     (b .0, then-fine (checkH placeOf s) _ .0 (b .1) .0, g .1)
 
 taken : (t : TaskSet) → checkSet t ≡ Fine → checkH (λ place. place) (counted t) ≡ Fine → Taken t
-unfolding isLegalSet checkH
+unfolding checkH
 taken t c h =
-    let g = set-fine t .0 c in
+    let g = legal-set t .0 (set-fine t .0 c) in
     record {
-      legal = and-right (leb (t .count) places) (allOver (counted t) isLegal) g;
-      few = leb-true (t .count) places (and-left (leb (t .count) places) (allOver (counted t) isLegal) g);
+      legal = g .1;
+      few = g .0;
       small = leb-true (H (counted t)) mostH (unless-fine (leb (H (counted t)) mostH) 8 (firstAbove (counted t)) .0 h);
     }
 

@@ -1,4 +1,4 @@
--- Laws of specs/Format and specs/Writing: stores that follow one another, sizes, and the records up to one more. Assumes nothing.
+-- Laws of specs/Format and specs/Writing: stores that follow one another, sizes, the records up to one more, and the outcomes. Assumes nothing.
 use Prim.Native.Nat.{ℕ, suc, _+_, _≤_, _<_}
 use mathlib.Core.Path.{_≡_, refl, sym, ap, _∙_}
 use mathlib.Core.List.{List, [], _∷_, _++_, append-assoc, append-nil}
@@ -6,9 +6,16 @@ use native.Mathlib.Omega.{arith}
 use native.Mathlib.Numerals.{add-one}
 use lib.ListN.{length, set, take, drop, getD, length-append, take-append-drop}
 use lib.Seq.{sets, take-suc}
+use borrow.Author.Tests.{le-leb, lt-leb}
 use Rattle.model.specs.declared.elements.Period.{Period}
 use Rattle.model.specs.declared.elements.Period.the-variants.{Once, Every}
 use Rattle.model.specs.declared.elements.Element.{Element}
+use Rattle.model.specs.declared.elements.TaskSet.{TaskSet}
+use Rattle.model.specs.declared.answers.Refusal.{Refusal}
+use Rattle.model.specs.declared.answers.Check.the-variants.{Fine, TurnedAway}
+use Rattle.model.specs.TurnedAway.{unless, checkSet}
+use Rattle.wire.specs.declared.writing.Written.the-variants.{Bytes, Refused}
+use Rattle.wire.specs.Writing.{bytesOf, checkWrite, writeSet, over, bufferAfter}
 use Rattle.wire.specs.Format.{numberBytes, startOf, recordOf, recordsOf}
 
 -- STORES that follow one another
@@ -82,3 +89,28 @@ pub records-within : (s : List Element) (i : ℕ) → length (recordsOf (take i 
 records-within s i =
     let cut : recordsOf s ≡ recordsOf (take i s) ++ recordsOf (drop i s) = sym (ap recordsOf (take-append-drop i s)) ∙ records-append (take i s) (drop i s) in
     omega (arith, simp length-append at (ap length cut))
+
+-- THE OUTCOMES, as the code meets them
+module _ (t : TaskSet) (out : List ℕ) where
+  pub write-refused : {r : Refusal} → checkSet t ≡ TurnedAway r → (Refused r ≡ writeSet t (length out)) × (out ≡ bufferAfter t out)
+  unfolding checkWrite writeSet bufferAfter
+  write-refused h = (rw h, rw h)
+
+  pub write-short :
+      {n : ℕ} →
+      checkSet t ≡ Fine →
+      n ≡ length (bytesOf t) →
+      length out < n →
+      (Refused (record { number = 10; place = n }) ≡ writeSet t (length out)) × (out ≡ bufferAfter t out)
+  unfolding checkWrite unless writeSet bufferAfter
+  write-short h g l = let short = lt-leb (length (bytesOf t)) (length out) (omega arith) in (rw (g, h, short), rw (h, short))
+
+  pub write-done :
+      {n : ℕ} {out′ : List ℕ} →
+      checkSet t ≡ Fine →
+      n ≡ length (bytesOf t) →
+      n ≤ length out →
+      out′ ≡ over (bytesOf t) out →
+      (Bytes n ≡ writeSet t (length out)) × (out′ ≡ bufferAfter t out)
+  unfolding checkWrite unless writeSet bufferAfter
+  write-done h g l o = let long = le-leb (length (bytesOf t)) (length out) (omega arith) in (rw (g, h, long), o ∙ rw (h, long))
