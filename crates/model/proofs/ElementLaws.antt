@@ -1,20 +1,20 @@
 -- Laws of specs/Elements: the allowed values as numbers. Assumes nothing.
-use Prim.Native.Nat.{ℕ, _≤_, _<_}
+use Prim.Native.Nat.{ℕ, _-_, _≤_, _<_}
 use mathlib.Core.Path.{_≡_}
 use mathlib.Core.Bool.{true, _&&_}
 use mathlib.Core.List.{List}
 use mathlib.Core.Logic.{_↔_}
 use native.Mathlib.Omega.{arith}
 use lib.Dec.{leb}
-use lib.ListN.{length, getD}
-use lib.Seq.{getD-take, length-take-le}
+use lib.ListN.{length, getD, replicate}
+use lib.Seq.{getD-take, length-take-le, take-append-seam}
 use borrow.Author.Tests.{leb-true, le-leb}
 use Rattle.model.specs.declared.elements.Period.{Period}
 use Rattle.model.specs.declared.elements.Period.the-variants.{Once, Every}
 use Rattle.model.specs.declared.elements.Element.{Element}
 use Rattle.model.specs.declared.elements.TaskSet.{TaskSet}
 use Rattle.model.specs.Over.{allOver, Each}
-use Rattle.model.specs.Elements.{mostPeriod, mostOffset, mostDeadline, mostCost, places, within, isPeriod, isOffset, isDeadline, isCost, isLegal, AllLegal, counted, isLegalSet}
+use Rattle.model.specs.Elements.{mostPeriod, mostOffset, mostDeadline, mostCost, places, within, isPeriod, isOffset, isDeadline, isCost, isLegal, AllLegal, filler, counted, isLegalSet, setOf}
 use Rattle.model.proofs.Cases.{and-left, and-right}
 use Rattle.model.proofs.OverLaws.{all-each, each-map}
 
@@ -77,6 +77,10 @@ legal-set t =
     let few = leb (t .count) places in
     let all = allOver (counted t) isLegal in
     (λ h. (leb-true (t .count) places (and-left few all h), and-right few all h), λ h. rw (le-leb (t .count) places (h .0)) (h .1))
+
+-- a set holds the elements that it is made of
+pub set-counted : (s : List Element) → counted (setOf s) ≡ s
+set-counted s = take-append-seam s (replicate (places - length s) filler)
 
 -- the counted places of a table
 module _ (t : TaskSet) (long : length (t .table) ≡ places) (few : t .count ≤ places) where

@@ -1,6 +1,6 @@
 -- Laws of specs/TurnedAway: a check is fine exactly when each of its parts is; the checks from one element on. Assumes nothing.
 use Prim.Native.Nat.{ℕ, suc, _<_}
-use mathlib.Core.Path.{_≡_, refl}
+use mathlib.Core.Path.{_≡_, refl, ap}
 use mathlib.Core.Bool.{Bool, true, false}
 use mathlib.Core.List.{List, [], _∷_}
 use mathlib.Core.Logic.{_↔_}
@@ -15,12 +15,17 @@ use Rattle.model.specs.declared.answers.Check.{Check}
 use Rattle.model.specs.declared.answers.Check.the-variants.{Fine, TurnedAway}
 use Rattle.model.specs.Over.{allOver}
 use Rattle.model.specs.Elements.{places, isPeriod, isOffset, isDeadline, isCost, isLegal, counted, isLegalSet}
-use Rattle.model.specs.TurnedAway.{unless, _then_, checkElement, checkElements, checkSet}
+use Rattle.model.specs.TurnedAway.{turned, unless, _then_, checkElement, checkElements, checkSet}
 use Rattle.model.proofs.Cases.{clash, and-left, and-right}
 use Rattle.model.proofs.ElementLaws.{legal-parts}
 
-turned-is-not-fine : {r : Refusal} → TurnedAway r ≡ Fine → ⊥
+pub turned-is-not-fine : {r : Refusal} → TurnedAway r ≡ Fine → ⊥
 turned-is-not-fine h = let z : _≡_ {A = ℕ} 0 1 = cc in omega arith
+
+pub turned-tells : {m n p q : ℕ} → turned m p ≡ turned n q → (m ≡ n) × (p ≡ q)
+turned-tells {m} {n} {p} {q} h =
+    let same : _≡_ {A = Refusal} (record { number = m; place = p }) (record { number = n; place = q }) = cc in
+    (ap (λ r. r .number) same, ap (λ r. r .place) same)
 
 pub then-fine : (a b : Check) → ((a then b) ≡ Fine) ↔ ((a ≡ Fine) × (b ≡ Fine))
 then-fine Fine b = (λ h. (refl, h), λ h. h .1)

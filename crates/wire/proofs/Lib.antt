@@ -3,3 +3,7 @@ pub mod ReadingLaws
 pub mod ReadingASet
 pub mod WritingLaws
 pub mod WritingASet
+pub mod RecordLaws
+pub mod Splitting
+pub mod RowLaws
+pub mod ReaderIsDecided

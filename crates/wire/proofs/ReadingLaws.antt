@@ -11,13 +11,14 @@ use denote.Ref.{RefT, now}
 use lib.Dec.{leb}
 use lib.ListN.{length, take, drop, length-drop}
 use lib.Seq.{take-all}
-use borrow.Author.Tests.{le-leb, leb-true, ne-eqb}
+use borrow.Author.Tests.{le-leb, leb-true, eqb-true, ne-eqb}
 use Rattle.model.specs.declared.elements.Element.{Element}
 use Rattle.model.specs.declared.answers.Refusal.{Refusal}
 use Rattle.model.specs.declared.answers.Check.{Check}
 use Rattle.model.specs.declared.answers.Check.the-variants.{Fine, TurnedAway}
 use Rattle.model.specs.Elements.{places, isLegal}
 use Rattle.model.specs.TurnedAway.{unless, _then_, checkElement}
+use Rattle.model.proofs.Cases.{clash}
 use Rattle.model.proofs.TurnedAwayLaws.{then-fine, unless-fine, element-fine}
 use Rattle.wire.specs.declared.records.Record.{Record}
 use Rattle.wire.specs.declared.records.Record.the-variants as answer
@@ -26,15 +27,25 @@ use Rattle.wire.specs.Reading.{checkRecord, noBytes, answerOf, checkOf, 
 use Rattle.wire.proofs.records.Record.{the-type}
 use Rattle.wire.proofs.FormatLaws.{some-size}
 
+-- NO BYTES, and some
+pub no-bytes : (s : List ℕ) → noBytes s ≡ true → s ≡ []
+unfolding noBytes
+no-bytes [] h = refl
+no-bytes (b ∷ s) h = absurd (omega (arith, eqb-true (length (b ∷ s)) 0 h))
+
+pub some-bytes : (s : List ℕ) → (noBytes s ≡ false) ↔ (1 ≤ length s)
+unfolding noBytes
+some-bytes [] = (λ h. absurd (clash refl h), λ h. absurd (omega arith))
+some-bytes (b ∷ s) = (λ h. omega arith, λ h. ne-eqb (length (b ∷ s)) 0 (λ z. omega arith))
+
 -- A RECORD THAT IS AN ELEMENT: known, whole and legal
 pub record IsElement (s : List ℕ) : Type 0 where
   pub kind : isKind (kindOf s) ≡ true
   pub whole : recordSize s ≤ length s
   pub legal : isLegal (elementOf s) ≡ true
 
-some-bytes : (s : List ℕ) → IsElement s → noBytes s ≡ false
-unfolding noBytes
-some-bytes s h = ne-eqb (length s) 0 (λ z. omega (arith, some-size s, h .whole))
+element-bytes : (s : List ℕ) → IsElement s → noBytes s ≡ false
+element-bytes s h = some-bytes s .1 (omega (arith, some-size s, h .whole))
 
 module _ (room place : ℕ) (s : List ℕ) where
   pub record-fine : (checkRecord room place s ≡ Fine) ↔ (IsElement s × (1 ≤ room))
@@ -68,7 +79,7 @@ module _ (room place : ℕ) (s : List ℕ) where
 
   pub element-answers : IsElement s → 1 ≤ room → readNext room place s ≡ answer.Element (elementOf s)
   unfolding readNext
-  element-answers h r = rw (some-bytes s h, record-fine .1 (h, r))
+  element-answers h r = rw (element-bytes s h, record-fine .1 (h, r))
 
 -- THE REST
 module _ (s : List ℕ) where
@@ -130,7 +141,7 @@ module _ (place : ℕ) (s : List ℕ) where
 
   pub records-next : (room : ℕ) → IsElement s → checkRecords (suc room) place s ≡ checkRecords room (place + recordSize s) (drop (recordSize s) s)
   unfolding checkRecords
-  records-next room h = rw (some-bytes s h, record-fine (suc room) place s .1 (h, omega arith))
+  records-next room h = rw (element-bytes s h, record-fine (suc room) place s .1 (h, omega arith))
 
 pub elements-end : (room : ℕ) (s : List ℕ) → noBytes s ≡ true → elementsIn room s ≡ []
 unfolding elementsIn
@@ -139,4 +150,4 @@ elements-end (suc room) s h = rw h
 
 pub elements-next : (room : ℕ) (s : List ℕ) → IsElement s → elementsIn (suc room) s ≡ elementOf s ∷ elementsIn room (drop (recordSize s) s)
 unfolding elementsIn
-elements-next room s h = rw (some-bytes s h)
+elements-next room s h = rw (element-bytes s h)

@@ -1,0 +1,48 @@
+-- Words of the theorems about reading and writing: the rows of document 01's table, bytes that are a set, and bytes that are refused.
+use Prim.Native.Nat.{ℕ, _≤_, _<_}
+use mathlib.Core.Path.{_≡_}
+use mathlib.Core.Bool.{Bool, true, false}
+use mathlib.Core.List.{List, [], _∷_, _++_}
+use lib.Dec.{leb, ltb}
+use lib.ListN.{length, getD}
+use Rattle.model.specs.declared.elements.Element.{Element}
+use Rattle.model.specs.Elements.{places, isPeriod, isOffset, isDeadline, isCost, AllLegal}
+use Rattle.wire.specs.Format.{kindOf, isKind, recordSize, elementOf, recordsOf}
+
+-- THE ROWS 1 TO 7 of "What is turned away": whether each lets the record pass that the bytes start with, after these elements. There is no row 0
+abbrev pub rows : List Element → List ℕ → List Bool
+rows before from =
+    true
+    -- 1: "kind neither 01 nor 02"
+    ∷ isKind (kindOf from)
+    -- 2: "fewer body bytes left than the kind fixes"
+    ∷ leb (recordSize from) (length from)
+    -- 3: "a 129th element"
+    ∷ ltb (length before) places
+    -- 4: "period out of range"
+    ∷ isPeriod (elementOf from .period)
+    -- 5: "offset out of range"
+    ∷ isOffset (elementOf from .offset)
+    -- 6: "deadline out of range"
+    ∷ isDeadline (elementOf from .deadline)
+    -- 7: "cost out of range"
+    ∷ isCost (elementOf from .cost)
+    ∷ []
+
+-- BYTES THAT ARE A SET: the records of these elements and nothing else
+pub record AreRecords (s : List ℕ) (es : List Element) : Type 0 where
+  pub bytes : s ≡ recordsOf es
+  pub legal : AllLegal es
+  pub few : length es ≤ places
+
+-- BYTES THAT ARE REFUSED by this number at this place: a record after those of legal elements, and the first row that does not let it pass
+pub record AreRefused (s : List ℕ) (number place : ℕ) : Type 0 where
+  pub before : List Element
+  pub from : List ℕ
+  pub bytes : s ≡ recordsOf before ++ from
+  pub legal : AllLegal before
+  pub few : length before ≤ places
+  pub more : 1 ≤ length from
+  pub at : place ≡ length (recordsOf before)
+  pub row : getD (rows before from) number true ≡ false
+  pub first : (earlier : ℕ) → earlier < number → getD (rows before from) earlier true ≡ true
