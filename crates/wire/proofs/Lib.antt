@@ -7,3 +7,5 @@ pub mod RecordLaws
 pub mod Splitting
 pub mod RowLaws
 pub mod ReaderIsDecided
+pub mod WriterIsDecided
+pub mod RoundTrip

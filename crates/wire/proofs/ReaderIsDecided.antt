@@ -40,7 +40,7 @@ module _ (before : List Element) (from : List ℕ) (legal : AllLegal before) (fe
   elements-from : elementsIn places (recordsOf before ++ from) ≡ before ++ elementsIn left from
   elements-from = elements-then left from before places legal rooms
 
-reads-set : (s : List ℕ) (es : List Element) → AreRecords s es → readSet s ≡ handedBack Fine (setOf es)
+pub reads-set : (s : List ℕ) (es : List Element) → AreRecords s es → readSet s ≡ handedBack Fine (setOf es)
 unfolding readSet noBytes
 reads-set s es k =
     let n = left es [] (k .legal) (k .few) in
@@ -91,6 +91,14 @@ decide s h = ⊎-elim (λ p. inl (whole p)) (λ p. inr (stopped (p .0) (p .1) (p
             first = f .2 .first;
           },
         )
+
+-- THEOREM: what is read without a refusal is a set, and the bytes are its records
+pub read-is-records : (s : List ℕ) → AllBytes s → readSet s .check ≡ Fine → (es : List Element) × AreRecords s es × (readSet s .set ≡ setOf es)
+read-is-records s h c =
+    ⊎-elim
+    (λ k. (k .0, k .1, ap (λ x. x .set) (reads-set s (k .0) (k .1))))
+    (λ k. absurd (turned-is-not-fine (sym (ap (λ x. x .check) (reads-refused s (k .0) (k .1) (k .2))) ∙ c)))
+    (decide s h)
 
 -- THEOREM: a set is read exactly from its records
 pub set-is-read : (s : List ℕ) (es : List Element) → AllBytes s → (readSet s ≡ handedBack Fine (setOf es)) ↔ AreRecords s es

@@ -1,0 +1,48 @@
+-- Reading a written set gives that set; writing a read set gives those bytes. Assumes nothing.
+use Prim.Native.Nat.{ℕ, _≤_}
+use mathlib.Core.Path.{_≡_, sym, ap, ap₂, _∙_}
+use mathlib.Core.Bool.{true}
+use mathlib.Core.List.{List, _++_}
+use native.Mathlib.Omega.{arith}
+use lib.ListN.{length, take, drop, take-append-drop}
+use Rattle.model.specs.declared.elements.TaskSet.{TaskSet}
+use Rattle.model.specs.declared.answers.Check.the-variants.{Fine}
+use Rattle.model.specs.Elements.{places, isLegalSet, counted, setOf, Same}
+use Rattle.model.proofs.ElementLaws.{legal-set, set-counted, counted-long}
+use Rattle.wire.specs.declared.writing.Written.the-variants.{Bytes}
+use Rattle.wire.specs.Format.{AllBytes, recordsOf}
+use Rattle.wire.specs.Reading.{handedBack, readSet}
+use Rattle.wire.specs.Writing.{bytesOf, writeSet, bufferAfter}
+use Rattle.wire.specs.Outcomes.{AreRecords}
+use Rattle.wire.proofs.ReaderIsDecided.{reads-set, read-is-records}
+use Rattle.wire.proofs.WriterIsDecided.{set-is-written, bytes-are-written}
+
+-- THEOREM: what was written is read as the same set, with fillers past its count
+pub write-then-read :
+    (t : TaskSet) (out : List ℕ) (n : ℕ) →
+    length (t .table) ≡ places →
+    writeSet t (length out) ≡ Bytes n →
+    (readSet (take n (bufferAfter t out)) ≡ handedBack Fine (setOf (counted t))) × Same (setOf (counted t)) t
+write-then-read t out n long h =
+    let legal = legal-set t .0 (set-is-written t (length out) n .0 h .0) in
+    let bytes = bytes-are-written t out n h .0 in
+    let few : length (counted t) ≤ places = omega (arith, counted-long t long (legal .0), legal .0) in (
+      reads-set (take n (bufferAfter t out)) (counted t) (record { bytes = bytes; legal = legal .1; few = few }),
+      record { counts = counted-long t long (legal .0); elements = set-counted (counted t) },
+    )
+
+-- THEOREM: what was read is written as exactly those bytes
+pub read-then-write :
+    (s out : List ℕ) →
+    AllBytes s →
+    readSet s .check ≡ Fine →
+    length s ≤ length out →
+    (writeSet (readSet s .set) (length out) ≡ Bytes (length s)) × (bufferAfter (readSet s .set) out ≡ s ++ drop (length s) out)
+read-then-write s out h c long =
+    let k = read-is-records s h c in
+    let es = k .0 in
+    let bytes : bytesOf (readSet s .set) ≡ s = rw (k .2) (ap recordsOf (set-counted es) ∙ sym (k .1 .bytes)) in
+    let legal : isLegalSet (readSet s .set) ≡ true = rw (k .2) (legal-set (setOf es) .1 (k .1 .few, rw (set-counted es) (k .1 .legal))) in
+    let written = set-is-written (readSet s .set) (length out) (length s) .1 (legal, ap length bytes, long) in
+    let buffer = bytes-are-written (readSet s .set) out (length s) written in
+    (written, sym (take-append-drop (length s) (bufferAfter (readSet s .set) out)) ∙ ap₂ _++_ (buffer .0 ∙ bytes) (buffer .1))
