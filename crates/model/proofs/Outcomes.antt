@@ -3,16 +3,24 @@ use Prim.Native.Nat.{ℕ, zero, suc}
 use mathlib.Core.Path.{_≡_, refl, ap, sym, _∙_}
 use Rattle.model.specs.declared.elements.Element.{Element}
 use Rattle.model.specs.declared.elements.TaskSet.{TaskSet}
+use Rattle.model.specs.declared.answers.Check.{Check}
 use Rattle.model.specs.declared.answers.Verdict.{Verdict}
 use Rattle.model.specs.declared.answers.Verdict.the-variants.{Passes, Overrun, LoadAboveOne, NotShown}
 use Rattle.model.specs.Elements.{filler, emptySet}
 use Rattle.model.specs.Answers.{values}
+use Rattle.model.specs.TurnedAway.{checkElement, checkSet}
 
 pub filler-is-decided : (a b : Element) → a ≡ filler → b ≡ filler → a ≡ b
 filler-is-decided a b p q = p ∙ sym q
 
 pub empty-set-is-decided : (a b : TaskSet) → a ≡ emptySet → b ≡ emptySet → a ≡ b
 empty-set-is-decided a b p q = p ∙ sym q
+
+pub element-check-is-decided : (place : ℕ) (e : Element) (a b : Check) → a ≡ checkElement place e → b ≡ checkElement place e → a ≡ b
+element-check-is-decided place e a b p q = p ∙ sym q
+
+pub set-check-is-decided : (t : TaskSet) (a b : Check) → a ≡ checkSet t → b ≡ checkSet t → a ≡ b
+set-check-is-decided t a b p q = p ∙ sym q
 
 -- the verdict that has these values
 verdictOf : ℕ → ℕ → ℕ → ℕ → Verdict

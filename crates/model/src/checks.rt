@@ -29,7 +29,7 @@ fn is_period(period: Period) -> bool
     }
 }
 
-pub fn turned(number: u32, place: usize) -> Check
+fn turned(number: u32, place: usize) -> Check
     ensures { λ r. ⌜ r ≡ the-turned number place ⌝ }
 {
     Check::TurnedAway(Refusal { number, place })

@@ -6,6 +6,9 @@ pub mod WritingASet
 pub mod RecordLaws
 pub mod Splitting
 pub mod RowLaws
+pub mod RecordIsDecided
 pub mod ReaderIsDecided
 pub mod WriterIsDecided
 pub mod RoundTrip
+pub mod EdgesOfTheFormat
+pub mod Outcomes

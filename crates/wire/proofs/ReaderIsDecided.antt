@@ -23,7 +23,7 @@ use Rattle.wire.specs.Reading.{noBytes, checkRecord, checkRecords, eleme
 use Rattle.wire.specs.Outcomes.{AreRecords, AreRefused}
 use Rattle.wire.proofs.ReadingLaws.{no-bytes, some-bytes, records-end, records-stop, elements-end}
 use Rattle.wire.proofs.Splitting.{records-then, elements-then, Split, split}
-use Rattle.wire.proofs.RowLaws.{First, turned-by-first, first-turns, first-is}
+use Rattle.wire.proofs.RowLaws.{turned-by-first, first-turns, first-is}
 
 -- what follows the records of legal elements is looked at with the room left, at its place
 module _ (before : List Element) (from : List ℕ) (legal : AllLegal before) (few : length before ≤ places) where
@@ -58,7 +58,7 @@ unfolding readSet
 reads-refused s number place k =
     let n = left (k .before) (k .from) (k .legal) (k .few) in
     let at = length (recordsOf (k .before)) in
-    let turn = first-turns (k .before) (k .from) n at (rooms (k .before) (k .from) (k .legal) (k .few)) number (record { row = k .row; first = k .first }) in
+    let turn = first-turns (k .before) (k .from) n at (rooms (k .before) (k .from) (k .legal) (k .few)) number (k .row) in
     rw (k .bytes, check-from (k .before) (k .from) (k .legal) (k .few), records-stop at (k .from) n (some-bytes (k .from) .1 (k .more)) turn, k .at)
 
 -- every input is one or the other
@@ -87,8 +87,7 @@ decide s h = ⊎-elim (λ p. inl (whole p)) (λ p. inr (stopped (p .0) (p .1) (p
             few = few;
             more = some-bytes (k .from) .0 p;
             at = omega (arith, k .at-is);
-            row = f .2 .row;
-            first = f .2 .first;
+            row = f .2;
           },
         )
 
@@ -137,6 +136,6 @@ pub read-is-decided :
 read-is-decided s h =
     ⊎-elim
     (λ k. inl (k .0, reads-set s (k .0) (k .1)))
-    (λ k. let range = first-is (k .2 .before) (k .2 .from) (k .0) (record { row = k .2 .row; first = k .2 .first }) in
+    (λ k. let range = first-is (k .2 .before) (k .2 .from) (k .0) (k .2 .row) in
     inr (k .0, k .1, range .0, range .1, reads-refused s (k .0) (k .1) (k .2)))
     (decide s h)

@@ -17,7 +17,7 @@ use Rattle.model.specs.TurnedAway.{turned, unless, _then_, checkElement}
 use Rattle.model.proofs.Cases.{clash, lt-or-le}
 use Rattle.wire.specs.Format.{elementOf}
 use Rattle.wire.specs.Reading.{checkRecord}
-use Rattle.wire.specs.Outcomes.{rows}
+use Rattle.wire.specs.Outcomes.{rows, IsFirst}
 
 -- rows in order, numbered from n on: the first that does not let pass decides
 inOrder : ℕ → ℕ → List Bool → Check
@@ -42,13 +42,8 @@ record-in-order :
 unfolding checkRecord checkElement unless inOrder
 record-in-order before from left place h = rw (room-left (length before) places left h, then-nothing (unless (isCost (elementOf from .cost)) 7 place))
 
--- the first of these rows that does not let pass
-pub record First (bs : List Bool) (i : ℕ) : Type 0 where
-  pub row : getD bs i true ≡ false
-  pub first : (j : ℕ) → j < i → getD bs j true ≡ true
-
-one-later : (bs : List Bool) (i : ℕ) → First bs i → First (true ∷ bs) (suc i)
-one-later bs i h = record { row = h .row; first = earlier }
+one-later : (bs : List Bool) (i : ℕ) → IsFirst bs i → IsFirst (true ∷ bs) (suc i)
+one-later bs i h = record { stops = h .stops; first = earlier }
   where
     earlier : (j : ℕ) → j < suc i → getD (true ∷ bs) j true ≡ true
     earlier zero l = refl
@@ -57,37 +52,37 @@ one-later bs i h = record { row = h .row; first = earlier }
 numbered : {m n : ℕ} (place : ℕ) → m ≡ n → turned m place ≡ turned n place
 numbered place h = ap (λ number. turned number place) h
 
-order-tells : (bs : List Bool) (n place : ℕ) {r : Refusal} → inOrder n place bs ≡ TurnedAway r → (i : ℕ) × (TurnedAway r ≡ turned (n + i) place) × First bs i
+order-tells : (bs : List Bool) (n place : ℕ) {r : Refusal} → inOrder n place bs ≡ TurnedAway r → (i : ℕ) × (TurnedAway r ≡ turned (n + i) place) × IsFirst bs i
 unfolding inOrder unless
 order-tells [] n place h = let z : _≡_ {A = ℕ} 0 1 = cc in absurd (omega arith)
-order-tells (false ∷ bs) n place h = (0, sym h ∙ numbered place (omega arith), record { row = refl; first = λ j l. absurd (omega arith) })
+order-tells (false ∷ bs) n place h = (0, sym h ∙ numbered place (omega arith), record { stops = refl; first = λ j l. absurd (omega arith) })
 order-tells (true ∷ bs) n place h =
     let k = order-tells bs (suc n) place h in
     (suc (k .0), k .1 ∙ numbered place (omega arith), one-later bs (k .0) (k .2))
 
-first-decides : (bs : List Bool) (n place i : ℕ) → First bs i → inOrder n place bs ≡ turned (n + i) place
+first-decides : (bs : List Bool) (n place i : ℕ) → IsFirst bs i → inOrder n place bs ≡ turned (n + i) place
 unfolding inOrder unless
-first-decides [] n place i h = absurd (clash refl (h .row))
-first-decides (b ∷ bs) n place zero h = rw (h .row) (numbered place (omega arith))
+first-decides [] n place i h = absurd (clash refl (h .stops))
+first-decides (b ∷ bs) n place zero h = rw (h .stops) (numbered place (omega arith))
 first-decides (b ∷ bs) n place (suc i) h =
-    let later = first-decides bs (suc n) place i (record { row = h .row; first = λ j l. h .first (suc j) (omega arith) }) in
+    let later = first-decides bs (suc n) place i (record { stops = h .stops; first = λ j l. h .first (suc j) (omega arith) }) in
     rw (h .first 0 (omega arith)) (later ∙ numbered place (omega arith))
 
 -- there are rows 1 to 7
-pub first-is : (before : List Element) (from : List ℕ) (i : ℕ) → First (rows before from) i → (1 ≤ i) × (i ≤ 7)
-first-is before from zero h = absurd (clash refl (h .row))
+pub first-is : (before : List Element) (from : List ℕ) (i : ℕ) → IsFirst (rows before from) i → (1 ≤ i) × (i ≤ 7)
+first-is before from zero h = absurd (clash refl (h .stops))
 first-is before from (suc i) h =
     ⊎-elim
     (λ l. (omega arith, omega arith))
-    (λ l. absurd (clash (List·getD-eq-default (rows before from) true l) (h .row)))
+    (λ l. absurd (clash (List·getD-eq-default (rows before from) true l) (h .stops)))
     (lt-or-le (suc i) 8)
 
 -- A RECORD IS TURNED AWAY BY A ROW exactly where that is the first
 module _ (before : List Element) (from : List ℕ) (left place : ℕ) (h : places ≡ length before + left) where
-  pub turned-by-first : {r : Refusal} → checkRecord left place from ≡ TurnedAway r → (number : ℕ) × (TurnedAway r ≡ turned number place) × First (rows before from) number
+  pub turned-by-first : {r : Refusal} → checkRecord left place from ≡ TurnedAway r → (number : ℕ) × (TurnedAway r ≡ turned number place) × IsFirst (rows before from) number
   turned-by-first g =
       let k = order-tells (rows before from) 0 place (sym (record-in-order before from left place h) ∙ g) in
       (k .0, k .1 ∙ numbered place (omega arith), k .2)
 
-  pub first-turns : (number : ℕ) → First (rows before from) number → checkRecord left place from ≡ turned number place
+  pub first-turns : (number : ℕ) → IsFirst (rows before from) number → checkRecord left place from ≡ turned number place
   first-turns number k = record-in-order before from left place h ∙ first-decides (rows before from) 0 place number k ∙ numbered place (omega arith)

@@ -29,13 +29,18 @@ rows before from =
     ∷ isCost (elementOf from .cost)
     ∷ []
 
+-- the first of these rows that does not let pass
+pub record IsFirst (rs : List Bool) (number : ℕ) : Type 0 where
+  pub stops : getD rs number true ≡ false
+  pub first : (earlier : ℕ) → earlier < number → getD rs earlier true ≡ true
+
 -- BYTES THAT ARE A SET: the records of these elements and nothing else
 pub record AreRecords (s : List ℕ) (es : List Element) : Type 0 where
   pub bytes : s ≡ recordsOf es
   pub legal : AllLegal es
   pub few : length es ≤ places
 
--- BYTES THAT ARE REFUSED by this number at this place: a record after those of legal elements, and the first row that does not let it pass
+-- BYTES THAT ARE REFUSED by this number at this place: after the records of legal elements stands a record that this row is the first not to let pass
 pub record AreRefused (s : List ℕ) (number place : ℕ) : Type 0 where
   pub before : List Element
   pub from : List ℕ
@@ -44,5 +49,4 @@ pub record AreRefused (s : List ℕ) (number place : ℕ) : Type 0 where
   pub few : length before ≤ places
   pub more : 1 ≤ length from
   pub at : place ≡ length (recordsOf before)
-  pub row : getD (rows before from) number true ≡ false
-  pub first : (earlier : ℕ) → earlier < number → getD (rows before from) earlier true ≡ true
+  pub row : IsFirst (rows before from) number

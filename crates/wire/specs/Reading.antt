@@ -33,7 +33,7 @@ abbrev pub answerOf : Check → Element → Record
 answerOf Fine e = answer.Element e
 answerOf (TurnedAway r) e = answer.Refused r
 
--- and back: what each case says of the checks
+-- what each case of an answer says of the checks; `told` gives its number and place
 abbrev pub checkOf : Record → Check
 checkOf (answer.Element e) = Fine
 checkOf (answer.Refused r) = TurnedAway r

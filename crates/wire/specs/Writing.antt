@@ -25,6 +25,16 @@ abbrev pub writtenBy : Check → ℕ → Written
 writtenBy Fine n = Bytes n
 writtenBy (TurnedAway r) n = Refused r
 
+-- the numbers of each case: a refusal's number and place, and the bytes written
+pub record WrittenNumbers : Type 0 where
+  pub refusal : ℕ
+  pub place : ℕ
+  pub bytes : ℕ
+
+abbrev pub writtenNumbers : Written → WrittenNumbers
+writtenNumbers (Bytes n) = record { refusal = 0; place = 0; bytes = n }
+writtenNumbers (Refused r) = record { refusal = r .number; place = r .place; bytes = 0 }
+
 -- the answer, for a buffer of this many bytes
 unfoldable pub writeSet : TaskSet → ℕ → Written
 writeSet t room = writtenBy (checkWrite t room) (length (bytesOf t))

@@ -19,10 +19,13 @@ fn hand_back(found: Record, set: TaskSet) -> ReadSet
     ensures { λ r. ⌜ r ≡ handedBack (checkOf found) set ⌝ }
 {
     match found {
-        Record::Refused(r) => ReadSet {
-            check: Check::TurnedAway(r),
-            set: empty_set(),
-        },
+        Record::Refused(r) => {
+            let empty = empty_set();
+            ReadSet {
+                check: Check::TurnedAway(r),
+                set: empty,
+            }
+        }
         _ => ReadSet {
             check: Check::Fine,
             set,
