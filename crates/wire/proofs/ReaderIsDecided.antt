@@ -128,12 +128,12 @@ refusal-is-given s number place h = (λ r. ⊎-elim (found r) (refused r) (decid
         subst (λ n. AreRefused s n place) (told .0) (subst (AreRefused s (k .0)) (told .1) (k .2))
 
 -- THEOREM: reading ends in one of: a set; one refusal, from 1 to 7, with its place
-pub read-is-decided :
+pub set-or-refusal :
     (s : List ℕ) →
     AllBytes s →
     ((es : List Element) × (readSet s ≡ handedBack Fine (setOf es)))
     ⊎ ((number : ℕ) × (place : ℕ) × (1 ≤ number) × (number ≤ 7) × (readSet s ≡ handedBack (turned number place) emptySet))
-read-is-decided s h =
+set-or-refusal s h =
     ⊎-elim
     (λ k. inl (k .0, reads-set s (k .0) (k .1)))
     (λ k. let range = first-is (k .2 .before) (k .2 .from) (k .0) (k .2 .row) in

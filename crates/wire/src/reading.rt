@@ -45,9 +45,9 @@ pub fn read_set(bytes: &[u8]) -> ReadSet
         let Record::Element(e) = found else {
             return hand_back(found, set);
         };
-        set.table[count] = e;
-        set.count = count + 1;
         let next = rest(left);
         left = next;
+        set.table[count] = e;
+        set.count = count + 1;
     }
 }

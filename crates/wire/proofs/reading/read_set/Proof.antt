@@ -1,8 +1,12 @@
 -- `wire::reading::read_set` meets its contract. Assumes nothing.
-use mathlib.Core.Path.{sym, _∙_}
+use Prim.Native.Nat.{_-_, _<_}
+use mathlib.Core.Path.{_≡_, sym, _∙_}
 use native.Mathlib.Omega.{arith}
 use lib.ListN.{length}
 use borrow.Author.Needs.{needs}
+use Rattle.model.specs.Elements.{places}
+use Rattle.wire.specs.declared.records.Record.the-variants as answer
+use Rattle.wire.specs.Reading.{readNext}
 use Rattle.wire.proofs.ReadingASet.{Reading, start, count-is, stop, room, next, less}
 use Rattle.wire.proofs.reading.read_set.Statement.{statement}
 use Rattle.wire.proofs.reading.read_set.Tie as tie
@@ -37,23 +41,31 @@ hand-back-requires c κs = search needs
 returns : tie.Need-returns Inv-loop μ-loop
 returns c = c .hand-back .ensures ∙ stop _ _ _ (c .before .before .before .loop .inv) _ (sym (c .before .before .read-next .ensures)) (c .before .match .keys2)
 
-mul-e : tie.Need-mul-e Inv-loop μ-loop
-mul-e c = omega (arith, room _ _ _ (c .before .before .before .before .loop .inv) (sym (c .before .before .before .read-next .ensures) ∙ c .before .found .given .1))
-
-element-set-from-e : tie.Need-element-set-from-e Inv-loop μ-loop
-element-set-from-e c = room _ _ _ (c .before .before .before .before .loop .inv) (sym (c .before .before .before .read-next .ensures) ∙ c .before .found .given .1)
-
-add-set : tie.Need-add-set Inv-loop μ-loop
-add-set c = omega (arith, room _ _ _ (c .before .before .before .before .loop .inv) (sym (c .before .before .before .read-next .ensures) ∙ c .before .found .given .1))
-
 rest-requires : tie.Need-rest-requires Inv-loop μ-loop
 rest-requires c κs = search needs
 
+found : (c : tie.After-rest Inv-loop μ-loop) →
+    let k = c .before .before .before .before .before .loop in
+    readNext (places - k .set .count) (length (c .before .before .before .before .before .before .before .before .args .bytes .now) - length (k .left .now)) (k .left .now) ≡ answer.Element (c .before .before .found .given .0 .0)
+found c = sym (c .before .before .before .before .read-next .ensures) ∙ c .before .before .found .given .1
+
+below : (c : tie.After-rest Inv-loop μ-loop) → c .before .before .before .before .before .loop .set .count < places
+below c = room _ _ _ (c .before .before .before .before .before .loop .inv) (found c)
+
+mul-e : tie.Need-mul-e Inv-loop μ-loop
+mul-e c = omega (arith, below c)
+
+element-set-from-e : tie.Need-element-set-from-e Inv-loop μ-loop
+element-set-from-e c = below c
+
+add-set : tie.Need-add-set Inv-loop μ-loop
+add-set c = omega (arith, below c)
+
 loop-less : tie.Need-loop-less Inv-loop μ-loop
-loop-less c = rw (c .rest .ensures .bytes) (less _ _ _ (c .before .before .before .before .before .loop .inv) (sym (c .before .before .before .before .read-next .ensures) ∙ c .before .before .found .given .1))
+loop-less c = rw (c .rest .ensures .bytes) (less _ _ _ (c .before .before .before .before .before .loop .inv) (found c))
 
 loop-again : tie.Need-loop-again Inv-loop μ-loop
-loop-again c = rw (c .rest .ensures .bytes) (next _ _ _ (c .before .before .before .before .before .loop .inv) (sym (c .before .before .before .before .read-next .ensures) ∙ c .before .before .found .given .1))
+loop-again c = rw (c .rest .ensures .bytes) (next _ _ _ (c .before .before .before .before .before .loop .inv) (found c))
 
 pub read-set-spec : {M : Type 1} → statement M
 read-set-spec =
@@ -69,9 +81,9 @@ read-set-spec =
     enum-known-found
     hand-back-requires
     returns
+    rest-requires
     mul-e
     element-set-from-e
     add-set
-    rest-requires
     loop-less
     loop-again)
