@@ -6,7 +6,6 @@ use mathlib.Core.List.{List, [], _∷_, _++_}
 use lib.ListN.{replicate}
 use Rattle.model.specs.declared.elements.TaskSet.{TaskSet}
 use Rattle.model.specs.declared.answers.Check.the-variants.{Fine}
-use Rattle.model.specs.Over.{allOver}
 use Rattle.model.specs.Elements.{within, isPeriod, isOffset, isDeadline, isCost, filler, setOf, emptySet}
 use Rattle.model.specs.Answers.{Told, told}
 use Rattle.model.specs.TurnedAway.{turned, unless, checkElement, checkElements, checkSet}

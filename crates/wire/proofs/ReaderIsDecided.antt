@@ -6,15 +6,11 @@ use mathlib.Core.Bool.{true, false}
 use mathlib.Core.List.{List, [], _++_, append-nil}
 use mathlib.Core.Logic.{_↔_, _⊎_, inl, inr, ⊎-elim}
 use native.Mathlib.Omega.{arith}
-use lib.Dec.{eqb}
-use lib.ListN.{length, replicate}
-use lib.Seq.{take-append-seam}
-use borrow.Author.Tests.{eqb-true, eqb-false, ne-eqb}
+use lib.ListN.{length}
 use Rattle.model.specs.declared.elements.Element.{Element}
-use Rattle.model.specs.declared.elements.TaskSet.{TaskSet}
 use Rattle.model.specs.declared.answers.Refusal.{Refusal}
 use Rattle.model.specs.declared.answers.Check.the-variants.{Fine, TurnedAway}
-use Rattle.model.specs.Elements.{places, filler, AllLegal, counted, setOf, emptySet}
+use Rattle.model.specs.Elements.{places, AllLegal, counted, setOf, emptySet}
 use Rattle.model.specs.TurnedAway.{turned}
 use Rattle.model.proofs.ElementLaws.{set-counted}
 use Rattle.model.proofs.TurnedAwayLaws.{turned-is-not-fine, turned-tells}

@@ -1,6 +1,6 @@
 -- What holds whenever `read_set` turns to the next record, from the first to the end of the bytes. Assumes nothing.
 use Prim.Native.Nat.{ℕ, suc, _+_, _-_, _≤_, _<_}
-use mathlib.Core.Path.{_≡_, refl, sym, ap, _∙_}
+use mathlib.Core.Path.{_≡_, refl, ap}
 use mathlib.Core.Logic.{⊎-elim}
 use mathlib.Core.List.{List, [], _∷_, _++_, append-assoc, append-nil}
 use native.Mathlib.Omega.{arith}
@@ -10,7 +10,7 @@ use lib.ListN.{length, drop, set, replicate, length-append, length-drop}
 use lib.Seq.{set-append-seam}
 use Rattle.model.specs.declared.elements.Element.{Element}
 use Rattle.model.specs.declared.elements.TaskSet.{TaskSet}
-use Rattle.model.specs.declared.answers.Check.the-variants.{Fine, TurnedAway}
+use Rattle.model.specs.declared.answers.Check.the-variants.{Fine}
 use Rattle.model.specs.Elements.{places, filler, setOf, emptySet}
 use Rattle.wire.specs.declared.records.Record.{Record}
 use Rattle.wire.specs.declared.records.Record.the-variants as answer

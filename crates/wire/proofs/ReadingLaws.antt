@@ -1,5 +1,5 @@
 -- Laws of specs/Reading: what a record's answer tells, and what is read from there on. Assumes nothing.
-use Prim.Native.Nat.{ℕ, zero, suc, _+_, _-_, _≤_, _<_}
+use Prim.Native.Nat.{ℕ, zero, suc, _+_, _-_, _≤_}
 use mathlib.Core.Path.{_≡_, refl, sym, ap, subst, _∙_}
 use mathlib.Core.Bool.{Bool, true, false, cond}
 use mathlib.Core.List.{List, [], _∷_}
@@ -17,13 +17,13 @@ use Rattle.model.specs.declared.answers.Refusal.{Refusal}
 use Rattle.model.specs.declared.answers.Check.{Check}
 use Rattle.model.specs.declared.answers.Check.the-variants.{Fine, TurnedAway}
 use Rattle.model.specs.Elements.{places, isLegal}
-use Rattle.model.specs.TurnedAway.{unless, _then_, checkElement}
+use Rattle.model.specs.TurnedAway.{unless}
 use Rattle.model.proofs.Cases.{clash}
 use Rattle.model.proofs.TurnedAwayLaws.{then-fine, unless-fine, element-fine}
 use Rattle.wire.specs.declared.records.Record.{Record}
 use Rattle.wire.specs.declared.records.Record.the-variants as answer
 use Rattle.wire.specs.Format.{kindOf, isKind, recordSize, elementOf}
-use Rattle.wire.specs.Reading.{checkRecord, noBytes, answerOf, checkOf, readNext, readRecord, bytesTaken, restOf, IsRest, checkRecords, elementsIn}
+use Rattle.wire.specs.Reading.{checkRecord, noBytes, answerOf, readNext, readRecord, bytesTaken, restOf, IsRest, checkRecords, elementsIn}
 use Rattle.wire.proofs.records.Record.{the-type}
 use Rattle.wire.proofs.FormatLaws.{some-size}
 

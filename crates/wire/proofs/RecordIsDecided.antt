@@ -1,22 +1,19 @@
 -- What reading one record gives is decided for every input: the end, an element, or a refusal, each exactly when document 01 says; and what is
 -- left of the bytes. Assumes nothing.
-use Prim.Native.Nat.{ℕ, _+_, _≤_}
+use Prim.Native.Nat.{ℕ, _≤_}
 use mathlib.Core.Path.{_≡_, refl, sym, ap, subst, _∙_}
-use mathlib.Core.Bool.{true, false}
+use mathlib.Core.Bool.{true}
 use mathlib.Core.List.{List, [], _++_}
 use mathlib.Core.Logic.{_↔_}
 use native.Mathlib.Omega.{arith}
 use lib.ListN.{length, drop}
 use Rattle.model.specs.declared.elements.Element.{Element}
-use Rattle.model.specs.declared.answers.Refusal.{Refusal}
-use Rattle.model.specs.declared.answers.Check.the-variants.{TurnedAway}
 use Rattle.model.specs.Elements.{places, isLegal}
-use Rattle.model.specs.TurnedAway.{turned}
 use Rattle.model.proofs.TurnedAwayLaws.{turned-tells}
 use Rattle.wire.specs.declared.records.Record.{Record}
 use Rattle.wire.specs.declared.records.Record.the-variants as answer
-use Rattle.wire.specs.Format.{AllBytes, recordSize, elementOf, recordOf}
-use Rattle.wire.specs.Reading.{checkRecord, noBytes, answerOf, readNext, readRecord, bytesTaken, restOf}
+use Rattle.wire.specs.Format.{AllBytes, recordSize, recordOf}
+use Rattle.wire.specs.Reading.{noBytes, readNext, readRecord, bytesTaken, restOf}
 use Rattle.wire.specs.Outcomes.{rows, IsFirst}
 use Rattle.wire.proofs.ReadingLaws.{no-bytes, some-bytes, answer-tells, element-answers, rest-element}
 use Rattle.wire.proofs.RecordLaws.{written-is-read, written-is-element, written-rest, read-is-written}

@@ -13,7 +13,7 @@ use Rattle.model.specs.declared.elements.Period.the-variants.{Once, Every}
 use Rattle.model.specs.declared.elements.Element.{Element}
 use Rattle.model.specs.Elements.{isLegal}
 use Rattle.model.proofs.ElementLaws.{Legal, legal-is}
-use Rattle.wire.specs.Format.{AllBytes, numberBytes, numberAt, kindOf, isKind, bodySize, recordSize, elementAt, elementOf, startOf, recordOf}
+use Rattle.wire.specs.Format.{AllBytes, numberBytes, numberAt, kindOf, isKind, bodySize, recordSize, elementOf, startOf, recordOf}
 use Rattle.wire.proofs.FormatLaws.{known-kinds, every-size, every-element, once-size, once-element}
 use Rattle.wire.proofs.ReadingLaws.{IsElement}
 

@@ -13,7 +13,6 @@ use Rattle.wire.specs.declared.writing.Written.the-variants.{Bytes}
 use Rattle.wire.specs.Format.{AllBytes, recordsOf}
 use Rattle.wire.specs.Reading.{handedBack, readSet}
 use Rattle.wire.specs.Writing.{bytesOf, writeSet, bufferAfter}
-use Rattle.wire.specs.Outcomes.{AreRecords}
 use Rattle.wire.proofs.ReaderIsDecided.{reads-set, read-is-records}
 use Rattle.wire.proofs.WriterIsDecided.{set-is-written, bytes-are-written}
 

@@ -1,8 +1,8 @@
 -- What writing a set gives: its bytes exactly when it is legal and the buffer is long enough; a refusal, and then the buffer as it was. Assumes nothing.
 use Prim.Native.Nat.{ℕ, _≤_}
-use mathlib.Core.Path.{_≡_, refl, sym, ap, _∙_}
+use mathlib.Core.Path.{_≡_, refl, ap, _∙_}
 use mathlib.Core.Bool.{true}
-use mathlib.Core.List.{List, _++_}
+use mathlib.Core.List.{List}
 use mathlib.Core.Logic.{_↔_}
 use native.Mathlib.Omega.{arith}
 use lib.Dec.{leb}
@@ -17,7 +17,7 @@ use Rattle.model.specs.Elements.{isLegalSet}
 use Rattle.model.specs.TurnedAway.{checkSet}
 use Rattle.model.proofs.TurnedAwayLaws.{then-fine, unless-fine, set-fine}
 use Rattle.wire.specs.declared.writing.Written.the-variants.{Bytes, Refused}
-use Rattle.wire.specs.Writing.{bytesOf, checkWrite, writtenBy, writeSet, over, leftBy, bufferAfter}
+use Rattle.wire.specs.Writing.{bytesOf, checkWrite, writtenBy, writeSet, over, bufferAfter}
 
 fine-tells : (c : Check) {m n : ℕ} → writtenBy c m ≡ Bytes n → (c ≡ Fine) × (m ≡ n)
 fine-tells Fine h = (refl, cc)

@@ -24,7 +24,7 @@ loop-holds : tie.Need-loop-holds Inv-loop μ-loop
 loop-holds c = rw (c .empty-set .ensures) (start _)
 
 sub-place : tie.Need-sub-place Inv-loop μ-loop
-sub-place c = c .loop .inv .within
+sub-place c = omega (arith, c .loop .inv .within)
 
 sub-read-next : tie.Need-sub-read-next Inv-loop μ-loop
 sub-read-next c = omega (arith, c .loop .inv .few, count-is _ _ _ (c .loop .inv))

@@ -38,10 +38,10 @@ whole : (c : tie.After-size-of) → c .size-of .result ≤ length (c .before .be
 whole c = rw (size c) (element (c .before .before) .whole)
 
 sub-result : tie.Need-sub-result
-sub-result c = whole c
+sub-result c = omega (arith, whole c)
 
 part-result-start : tie.Need-part-result-start
-part-result-start c = whole c
+part-result-start c = omega (arith, whole c)
 
 part-result-end : tie.Need-part-result-end
 part-result-end c = search needs

@@ -1,5 +1,5 @@
 -- `wire::writing::record_size` meets its contract. Assumes nothing.
-use mathlib.Core.Path.{sym, _∙_}
+use mathlib.Core.Path.{sym}
 use native.Mathlib.Omega.{arith}
 use borrow.Author.Needs.{needs}
 use Rattle.wire.proofs.WritingLaws.{start-length, record-length}
