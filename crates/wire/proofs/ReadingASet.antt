@@ -68,7 +68,7 @@ module _ (s : List ℕ) (t : TaskSet) (left : List ℕ) (k : Reading s t left) w
     pub room : t .count < places
     room = omega (arith, found .1)
 
-    pub rest-is : restOf left ≡ drop (recordSize left) left
+    rest-is : restOf left ≡ drop (recordSize left) left
     rest-is = rest-element left (found .0)
 
     pub next : Reading s (withNext t e) (restOf left)

@@ -84,7 +84,7 @@ module _ (room place : ℕ) (s : List ℕ) where
 -- THE REST
 module _ (s : List ℕ) where
   -- an element is one at any place, and wherever there is room
-  pub taken-element : IsElement s → bytesTaken (readRecord s) s ≡ recordSize s
+  taken-element : IsElement s → bytesTaken (readRecord s) s ≡ recordSize s
   unfolding readRecord bytesTaken
   taken-element h = rw (element-answers places 0 s h (omega arith))
 

@@ -9,6 +9,7 @@ use native.Mathlib.Omega.{arith}
 use lib.ListN.{length, drop}
 use Rattle.model.specs.declared.elements.Element.{Element}
 use Rattle.model.specs.Elements.{places, isLegal}
+use Rattle.model.proofs.Cases.{clash}
 use Rattle.model.proofs.TurnedAwayLaws.{turned-tells}
 use Rattle.wire.specs.declared.records.Record.{Record}
 use Rattle.wire.specs.declared.records.Record.the-variants as answer
@@ -53,6 +54,10 @@ refusal-is-answered s number place = (found, back)
 
     back : (1 ≤ length s) × (place ≡ 0) × IsFirst (rows [] s) number → readRecord s ≡ answer.Refused (record { number = number; place = place })
     back k = rw (some-bytes s .1 (k .0), first-turns [] s places 0 (omega arith) number (k .2), k .1)
+
+-- THEOREM: one record alone is never refused by 3
+pub never-by-3 : (s : List ℕ) (place : ℕ) → readRecord s ≡ answer.Refused (record { number = 3; place = place }) → ⊥
+never-by-3 s place h = clash refl (refusal-is-answered s 3 place .0 h .2 .stops)
 
 -- THEOREM: the rest is what follows the record of an element, and all of the bytes where there is none
 pub rest-follows : (e : Element) (t : List ℕ) → isLegal e ≡ true → restOf (recordOf e ++ t) ≡ t

@@ -46,7 +46,7 @@ module _ (t : TaskSet) (long : length (t .table) ≡ places) (few : t .count ≤
           small = omega (arith, k .small, record-length e, start-length (e .period));
         }
 
-    pub sizing-fits : n + length (recordOf (getD (t .table) i d)) ≤ length (bytesOf t)
+    sizing-fits : n + length (recordOf (getD (t .table) i d)) ≤ length (bytesOf t)
     sizing-fits = rw (sizing-next .size) (records-within (counted t) (i + 1))
 
 -- the buffer holds what was counted, and then what it held

@@ -63,7 +63,7 @@ unfolding recordOf
 record-length e = rw (length-append, three-length (e .offset) (e .deadline) (e .cost))
 
 -- THE RECORDS up to one element more
-pub records-append : (s t : List Element) → recordsOf (s ++ t) ≡ recordsOf s ++ recordsOf t
+records-append : (s t : List Element) → recordsOf (s ++ t) ≡ recordsOf s ++ recordsOf t
 unfolding recordsOf
 records-append [] t = refl
 records-append (e ∷ s) t = rw (records-append s t) (sym (append-assoc (recordOf e) (recordsOf s) (recordsOf t)))
@@ -77,12 +77,6 @@ pub records-step :
     i < length s →
     recordsOf (take (i + 1) s) ≡ recordsOf (take i s) ++ recordOf (getD s i d)
 records-step s d i h = rw (add-one, take-suc s i d h, records-append, one-record)
-
-pub length-step :
-    (s : List Element) (d : Element) (i : ℕ) →
-    i < length s →
-    length (recordsOf (take (i + 1) s)) ≡ length (recordsOf (take i s)) + length (recordOf (getD s i d))
-length-step s d i h = rw (records-step s d i h, length-append)
 
 -- the first i records lie within all of them
 pub records-within : (s : List Element) (i : ℕ) → length (recordsOf (take i s)) ≤ length (recordsOf s)

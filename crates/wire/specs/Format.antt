@@ -9,7 +9,7 @@ use Rattle.model.specs.declared.elements.Period.the-variants.{Once, Every}
 use Rattle.model.specs.declared.elements.Element.{Element}
 use Rattle.model.specs.Over.{Each}
 
--- every one of these numbers is a byte
+-- what a slice of bytes holds: every one of these numbers is a byte
 abbrev pub AllBytes : List ℕ → Type 0
 AllBytes s = Each s (λ b. b < 256)
 
@@ -52,7 +52,7 @@ startOf (Every p) = 1 ∷ numberBytes p
 unfoldable pub recordOf : Element → List ℕ
 recordOf e = startOf (e .period) ++ (numberBytes (e .offset) ++ numberBytes (e .deadline) ++ numberBytes (e .cost))
 
--- "Records follow one another to the end of the input. No bytes are an empty set."
+-- "Records follow one another to the end of the input."
 unfoldable pub recordsOf : List Element → List ℕ
 recordsOf [] = []
 recordsOf (e ∷ s) = recordOf e ++ recordsOf s

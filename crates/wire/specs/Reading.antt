@@ -26,6 +26,7 @@ checkRecord room place s =
     then unless (leb 1 room) 3 place
     then checkElement place (elementOf s)
 
+-- "No bytes are an empty set."
 unfoldable pub noBytes : List ℕ → Bool
 noBytes s = eqb (length s) 0
 
@@ -69,7 +70,7 @@ checkRecords zero place s = cond (noBytes s) Fine (checkRecord 0 place s)
 checkRecords (suc room) place s =
     cond (noBytes s) Fine (checkRecord (suc room) place s then checkRecords room (place + recordSize s) (drop (recordSize s) s))
 
--- the elements of the records, as many as there is room for
+-- the elements of the records, where none is refused
 unfoldable pub elementsIn : ℕ → List ℕ → List Element
 elementsIn zero s = []
 elementsIn (suc room) s = cond (noBytes s) [] (elementOf s ∷ elementsIn room (drop (recordSize s) s))
