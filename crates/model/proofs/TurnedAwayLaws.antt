@@ -1,12 +1,12 @@
 -- Laws of specs/TurnedAway: a check is fine exactly when each of its parts is; the checks from one element on. Assumes nothing.
-use Prim.Native.Nat.{ℕ, suc, _<_}
-use mathlib.Core.Path.{_≡_, refl, ap}
+use Prim.Native.Nat.{ℕ, zero, suc, _+_, _<_}
+use mathlib.Core.Path.{_≡_, refl, sym, ap, _∙_}
 use mathlib.Core.Bool.{Bool, true, false}
 use mathlib.Core.List.{List, [], _∷_}
-use mathlib.Core.Logic.{_↔_}
+use mathlib.Core.Logic.{_↔_, _⊎_, inl, inr, ⊎-elim}
 use native.Mathlib.Omega.{arith}
 use lib.Dec.{leb}
-use lib.ListN.{length, getD, drop}
+use lib.ListN.{length, getD, take, drop}
 use lib.Seq.{drop-cons}
 use Rattle.model.specs.declared.elements.Element.{Element}
 use Rattle.model.specs.declared.elements.TaskSet.{TaskSet}
@@ -14,9 +14,9 @@ use Rattle.model.specs.declared.answers.Refusal.{Refusal}
 use Rattle.model.specs.declared.answers.Check.{Check}
 use Rattle.model.specs.declared.answers.Check.the-variants.{Fine, TurnedAway}
 use Rattle.model.specs.Over.{allOver}
-use Rattle.model.specs.Elements.{places, isPeriod, isOffset, isDeadline, isCost, isLegal, counted, isLegalSet}
+use Rattle.model.specs.Elements.{places, isPeriod, isOffset, isDeadline, isCost, isLegal, AllLegal, counted, isLegalSet}
 use Rattle.model.specs.TurnedAway.{turned, unless, _then_, checkElement, checkElements, checkSet}
-use Rattle.model.proofs.Cases.{clash, and-left, and-right}
+use Rattle.model.proofs.Cases.{clash, and-both, and-left, and-right}
 use Rattle.model.proofs.ElementLaws.{legal-parts}
 
 pub turned-is-not-fine : {r : Refusal} → TurnedAway r ≡ Fine → ⊥
@@ -30,6 +30,16 @@ turned-tells {m} {n} {p} {q} h =
 pub then-fine : (a b : Check) → ((a then b) ≡ Fine) ↔ ((a ≡ Fine) × (b ≡ Fine))
 then-fine Fine b = (λ h. (refl, h), λ h. h .1)
 then-fine (TurnedAway r) b = (λ h. absurd (turned-is-not-fine h), λ h. absurd (turned-is-not-fine (h .0)))
+
+-- who turns away
+pub then-turned : (a b : Check) {r : Refusal} → ((a then b) ≡ TurnedAway r) ↔ ((a ≡ TurnedAway r) ⊎ ((a ≡ Fine) × (b ≡ TurnedAway r)))
+then-turned Fine b = (λ h. inr (refl, h), ⊎-elim (λ h. absurd (turned-is-not-fine (sym h))) (λ h. h .1))
+then-turned (TurnedAway q) b = (λ h. inl h, ⊎-elim (λ h. h) (λ h. absurd (turned-is-not-fine (h .0))))
+
+pub unless-turned : (t : Bool) (number place : ℕ) {r : Refusal} → (unless t number place ≡ TurnedAway r) ↔ ((t ≡ false) × (turned number place ≡ TurnedAway r))
+unfolding unless
+unless-turned true number place = (λ h. absurd (turned-is-not-fine (sym h)), λ h. absurd (clash refl (h .0)))
+unless-turned false number place = (λ h. (refl, h), λ h. h .1)
 
 pub unless-fine : (t : Bool) (number place : ℕ) → (unless t number place ≡ Fine) ↔ (t ≡ true)
 unfolding unless
@@ -60,6 +70,47 @@ elements-fine place (e ∷ s) =
       λ h. let g = then-fine (checkElement place e) (checkElements (suc place) s) .0 h in rw (one .0 (g .0), rest .0 (g .1)),
       λ h. rw (one .1 (and-left (isLegal e) (allOver s isLegal) h), rest .1 (and-right (isLegal e) (allOver s isLegal) h)),
     )
+
+-- the first element that is not legal turns away
+pub record FirstTurned (s : List Element) (d : Element) (place i : ℕ) (r : Refusal) : Type 0 where
+  pub within : i < length s
+  pub before : AllLegal (take i s)
+  pub here : checkElement (place + i) (getD s i d) ≡ TurnedAway r
+
+pub elements-turned : (s : List Element) (d : Element) (place : ℕ) {r : Refusal} → checkElements place s ≡ TurnedAway r → (i : ℕ) × FirstTurned s d place i r
+unfolding checkElements allOver
+elements-turned [] d place h = absurd (turned-is-not-fine (sym h))
+elements-turned (e ∷ s) d place {r} h = go (elements-turned s d (suc place)) (then-turned (checkElement place e) (checkElements (suc place) s) .0 h)
+  where
+    go :
+        (checkElements (suc place) s ≡ TurnedAway r → (i : ℕ) × FirstTurned s d (suc place) i r) →
+        (checkElement place e ≡ TurnedAway r) ⊎ ((checkElement place e ≡ Fine) × (checkElements (suc place) s ≡ TurnedAway r)) →
+        (i : ℕ) × FirstTurned (e ∷ s) d place i r
+    go rest (inl p) = (0, record { within = omega arith; before = refl; here = ap (λ n. checkElement n e) (omega arith) ∙ p })
+    go rest (inr p) =
+        let k = rest (p .1) in (
+          suc (k .0),
+          record {
+            within = omega (arith, k .1 .within);
+            before = and-both (isLegal e) (allOver (take (k .0) s) isLegal) (element-fine place e .0 (p .0)) (k .1 .before);
+            here = ap (λ n. checkElement n (getD s (k .0) d)) (omega arith) ∙ k .1 .here;
+          },
+        )
+
+pub turned-elements : (s : List Element) (d : Element) (place i : ℕ) {r : Refusal} → FirstTurned s d place i r → checkElements place s ≡ TurnedAway r
+unfolding checkElements allOver
+turned-elements [] d place i h = absurd (omega (arith, h .within))
+turned-elements (e ∷ s) d place zero h =
+    let same : place ≡ place + 0 = omega arith in
+    rw (ap (λ n. checkElement n e) same ∙ h .here)
+turned-elements (e ∷ s) d place (suc i) h =
+    let legal = h .before in
+    rw (element-fine place e .1 (and-left (isLegal e) (allOver (take i s) isLegal) legal))
+    (turned-elements s d (suc place) i (record {
+      within = omega (arith, h .within);
+      before = and-right (isLegal e) (allOver (take i s) isLegal) legal;
+      here = ap (λ n. checkElement n (getD s i d)) (omega arith) ∙ h .here;
+    }))
 
 -- the checks from the element at i on
 pub elements-from :

@@ -17,7 +17,7 @@ use Rattle.model.specs.TurnedAway.{turned, unless, _then_, checkElement}
 use Rattle.model.proofs.Cases.{clash, lt-or-le}
 use Rattle.wire.specs.Format.{elementOf}
 use Rattle.wire.specs.Reading.{checkRecord}
-use Rattle.wire.specs.Outcomes.{rows, IsFirst}
+use Rattle.wire.specs.Outcomes.{valueRows, rows, IsFirst}
 
 -- rows in order, numbered from n on: the first that does not let pass decides
 inOrder : ℕ → ℕ → List Bool → Check
@@ -76,6 +76,20 @@ first-is before from (suc i) h =
     (λ l. (omega arith, omega arith))
     (λ l. absurd (clash (List·getD-eq-default (rows before from) true l) (h .stops)))
     (lt-or-le (suc i) 8)
+
+-- AN ELEMENT IS TURNED AWAY BY A ROW exactly where that is the first
+module _ (place : ℕ) (e : Element) where
+  element-in-order : checkElement place e ≡ inOrder 0 place (true ∷ true ∷ true ∷ true ∷ valueRows e)
+  unfolding checkElement unless inOrder
+  element-in-order = rw (then-nothing (unless (isCost (e .cost)) 7 place))
+
+  pub value-turned : {r : Refusal} → checkElement place e ≡ TurnedAway r → (number : ℕ) × (TurnedAway r ≡ turned number place) × IsFirst (true ∷ true ∷ true ∷ true ∷ valueRows e) number
+  value-turned g =
+      let k = order-tells (true ∷ true ∷ true ∷ true ∷ valueRows e) 0 place (sym element-in-order ∙ g) in
+      (k .0, k .1 ∙ numbered place (omega arith), k .2)
+
+  pub value-turns : (number : ℕ) → IsFirst (true ∷ true ∷ true ∷ true ∷ valueRows e) number → checkElement place e ≡ turned number place
+  value-turns number k = element-in-order ∙ first-decides (true ∷ true ∷ true ∷ true ∷ valueRows e) 0 place number k ∙ numbered place (omega arith)
 
 -- A RECORD IS TURNED AWAY BY A ROW exactly where that is the first
 module _ (before : List Element) (from : List ℕ) (left place : ℕ) (h : places ≡ length before + left) where

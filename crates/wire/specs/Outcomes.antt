@@ -1,15 +1,23 @@
--- Words of the theorems about reading and writing: the rows of document 01's table, bytes that are a set, and bytes that are refused.
+-- Words of the theorems about reading and writing: the rows of document 01's table, bytes that are a set or are refused, sets that are not written.
 use Prim.Native.Nat.{ℕ, _≤_, _<_}
 use mathlib.Core.Path.{_≡_}
 use mathlib.Core.Bool.{Bool, true, false}
 use mathlib.Core.List.{List, [], _∷_, _++_}
+use mathlib.Core.Logic.{_⊎_}
 use lib.Dec.{leb, ltb}
-use lib.ListN.{length, getD}
+use lib.ListN.{length, take, getD}
 use Rattle.model.specs.declared.elements.Element.{Element}
-use Rattle.model.specs.Elements.{places, isPeriod, isOffset, isDeadline, isCost, AllLegal}
+use Rattle.model.specs.declared.elements.TaskSet.{TaskSet}
+use Rattle.model.specs.Elements.{places, isPeriod, isOffset, isDeadline, isCost, AllLegal, filler, counted, isLegalSet}
 use Rattle.wire.specs.Format.{kindOf, isKind, recordSize, elementOf, recordsOf}
+use Rattle.wire.specs.Writing.{bytesOf}
 
--- THE ROWS 1 TO 7 of "What is turned away": whether each lets the record pass that the bytes start with, after these elements. There is no row 0
+-- THE ROWS of "What is turned away": whether each lets pass
+-- 4 to 7: "period", "offset", "deadline", "cost out of range"
+abbrev pub valueRows : Element → List Bool
+valueRows e = isPeriod (e .period) ∷ isOffset (e .offset) ∷ isDeadline (e .deadline) ∷ isCost (e .cost) ∷ []
+
+-- 1 to 7, of the record that the bytes start with, after these elements; there is no row 0
 abbrev pub rows : List Element → List ℕ → List Bool
 rows before from =
     true
@@ -19,15 +27,7 @@ rows before from =
     ∷ leb (recordSize from) (length from)
     -- 3: "a 129th element"
     ∷ ltb (length before) places
-    -- 4: "period out of range"
-    ∷ isPeriod (elementOf from .period)
-    -- 5: "offset out of range"
-    ∷ isOffset (elementOf from .offset)
-    -- 6: "deadline out of range"
-    ∷ isDeadline (elementOf from .deadline)
-    -- 7: "cost out of range"
-    ∷ isCost (elementOf from .cost)
-    ∷ []
+    ∷ valueRows (elementOf from)
 
 -- the first of these rows that does not let pass
 pub record IsFirst (rs : List Bool) (number : ℕ) : Type 0 where
@@ -50,3 +50,27 @@ pub record AreRefused (s : List ℕ) (number place : ℕ) : Type 0 where
   pub more : 1 ≤ length from
   pub at : place ≡ length (recordsOf before)
   pub row : IsFirst (rows before from) number
+
+-- A SET THAT IS NOT WRITTEN, by this number at this place
+-- "a count above 128 by 3 with place 128"
+pub record HasTooMany (t : TaskSet) (number place : ℕ) : Type 0 where
+  pub many : places < t .count
+  pub by : number ≡ 3
+  pub at : place ≡ places
+
+-- "then bad values by 4 to 7 with the element's place in the table, element by element"
+pub record HasBadValue (t : TaskSet) (number place : ℕ) : Type 0 where
+  pub few : t .count ≤ places
+  pub counts : place < length (counted t)
+  pub before : AllLegal (take place (counted t))
+  pub row : IsFirst (true ∷ true ∷ true ∷ true ∷ valueRows (getD (counted t) place filler)) number
+
+-- "then 10"
+pub record HasNoRoom (t : TaskSet) (room number place : ℕ) : Type 0 where
+  pub legal : isLegalSet t ≡ true
+  pub by : number ≡ 10
+  pub at : place ≡ length (bytesOf t)
+  pub short : room < place
+
+abbrev pub IsNotWritten : TaskSet → ℕ → ℕ → ℕ → Type 0
+IsNotWritten t room number place = HasTooMany t number place ⊎ (HasBadValue t number place ⊎ HasNoRoom t room number place)
