@@ -19,7 +19,7 @@ use Rattle.wire.specs.Reading.{noBytes, checkRecord, checkRecords, eleme
 use Rattle.wire.specs.Outcomes.{AreRecords, AreRefused}
 use Rattle.wire.proofs.ReadingLaws.{no-bytes, some-bytes, records-end, records-stop, elements-end}
 use Rattle.wire.proofs.Splitting.{records-then, elements-then, Split, split}
-use Rattle.wire.proofs.RowLaws.{turned-by-first, first-turns, first-is}
+use Rattle.wire.proofs.RowLaws.{record-turned, record-turns, first-is}
 
 -- what follows the records of legal elements is looked at with the room left, at its place
 module _ (before : List Element) (from : List ℕ) (legal : AllLegal before) (few : length before ≤ places) where
@@ -54,7 +54,7 @@ unfolding readSet
 reads-refused s number place k =
     let n = left (k .before) (k .from) (k .legal) (k .few) in
     let at = length (recordsOf (k .before)) in
-    let turn = first-turns (k .before) (k .from) n at (rooms (k .before) (k .from) (k .legal) (k .few)) number (k .row) in
+    let turn = record-turns (k .before) (k .from) n at (rooms (k .before) (k .from) (k .legal) (k .few)) number (k .row) in
     rw (k .bytes, check-from (k .before) (k .from) (k .legal) (k .few), records-stop at (k .from) n (some-bytes (k .from) .1 (k .more)) turn, k .at)
 
 -- every input is one or the other
@@ -72,7 +72,7 @@ decide s h = ⊎-elim (λ p. inl (whole p)) (λ p. inr (stopped (p .0) (p .1) (p
 
     stopped : (r : Refusal) → noBytes (k .from) ≡ false → checkRecord (k .left) (k .at) (k .from) ≡ TurnedAway r → (number : ℕ) × (place : ℕ) × AreRefused s number place
     stopped r p q =
-        let f = turned-by-first (k .before) (k .from) (k .left) (k .at) (k .room-is) q in (
+        let f = record-turned (k .before) (k .from) (k .left) (k .at) (k .room-is) q in (
           f .0,
           k .at,
           record {

@@ -18,7 +18,7 @@ use Rattle.wire.specs.Reading.{noBytes, readNext, readRecord, bytesTaken
 use Rattle.wire.specs.Outcomes.{rows, IsFirst}
 use Rattle.wire.proofs.ReadingLaws.{no-bytes, some-bytes, answer-tells, element-answers, rest-element}
 use Rattle.wire.proofs.RecordLaws.{written-is-read, written-is-element, written-rest, read-is-written}
-use Rattle.wire.proofs.RowLaws.{turned-by-first, first-turns}
+use Rattle.wire.proofs.RowLaws.{record-turned, record-turns}
 
 -- THEOREM: the end is answered exactly on no bytes
 pub end-is-answered : (s : List ℕ) → (readRecord s ≡ answer.End) ↔ (s ≡ [])
@@ -48,12 +48,12 @@ refusal-is-answered s number place = (found, back)
     found : readRecord s ≡ answer.Refused (record { number = number; place = place }) → (1 ≤ length s) × (place ≡ 0) × IsFirst (rows [] s) number
     found r =
         let k = answer-tells places 0 s r in
-        let f = turned-by-first [] s places 0 (omega arith) (k .1) in
+        let f = record-turned [] s places 0 (omega arith) (k .1) in
         let told = turned-tells (f .1) in
         (some-bytes s .0 (k .0), told .1, subst (IsFirst (rows [] s)) (sym (told .0)) (f .2))
 
     back : (1 ≤ length s) × (place ≡ 0) × IsFirst (rows [] s) number → readRecord s ≡ answer.Refused (record { number = number; place = place })
-    back k = rw (some-bytes s .1 (k .0), first-turns [] s places 0 (omega arith) number (k .2), k .1)
+    back k = rw (some-bytes s .1 (k .0), record-turns [] s places 0 (omega arith) number (k .2), k .1)
 
 -- THEOREM: one record alone is never refused by 3
 pub never-by-3 : (s : List ℕ) (place : ℕ) → readRecord s ≡ answer.Refused (record { number = 3; place = place }) → ⊥

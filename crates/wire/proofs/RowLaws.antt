@@ -1,4 +1,4 @@
--- The checks of a record are the rows of the table, one after the other. Assumes nothing.
+-- The checks of a record, and of an element in memory, are the rows of the table, one after the other. Assumes nothing.
 use Prim.Native.Nat.{ℕ, zero, suc, _+_, _≤_, _<_}
 use mathlib.Core.Path.{_≡_, refl, sym, ap, _∙_}
 use mathlib.Core.Bool.{Bool, true, false}
@@ -17,7 +17,7 @@ use Rattle.model.specs.TurnedAway.{turned, unless, _then_, checkElement}
 use Rattle.model.proofs.Cases.{clash, lt-or-le}
 use Rattle.wire.specs.Format.{elementOf}
 use Rattle.wire.specs.Reading.{checkRecord}
-use Rattle.wire.specs.Outcomes.{valueRows, rows, IsFirst}
+use Rattle.wire.specs.Outcomes.{rows, elementRows, IsFirst}
 
 -- rows in order, numbered from n on: the first that does not let pass decides
 inOrder : ℕ → ℕ → List Bool → Check
@@ -34,13 +34,6 @@ room-left a b left h =
     (λ l. le-leb 1 left (omega arith) ∙ sym (lt-ltb a b l))
     (λ l. lt-leb 1 left (omega arith) ∙ sym (le-ltb a b l))
     (lt-or-le a b)
-
-record-in-order :
-    (before : List Element) (from : List ℕ) (left place : ℕ) →
-    places ≡ length before + left →
-    checkRecord left place from ≡ inOrder 0 place (rows before from)
-unfolding checkRecord checkElement unless inOrder
-record-in-order before from left place h = rw (room-left (length before) places left h, then-nothing (unless (isCost (elementOf from .cost)) 7 place))
 
 one-later : (bs : List Bool) (i : ℕ) → IsFirst bs i → IsFirst (true ∷ bs) (suc i)
 one-later bs i h = record { stops = h .stops; first = earlier }
@@ -77,26 +70,34 @@ first-is before from (suc i) h =
     (λ l. absurd (clash (List·getD-eq-default (rows before from) true l) (h .stops)))
     (lt-or-le (suc i) 8)
 
--- AN ELEMENT IS TURNED AWAY BY A ROW exactly where that is the first
+-- a check that goes by rows in order turns away by the first that does not let pass, and exactly then
+module _ (c : Check) (place : ℕ) (bs : List Bool) (h : c ≡ inOrder 0 place bs) where
+  turned-by : {r : Refusal} → c ≡ TurnedAway r → (number : ℕ) × (TurnedAway r ≡ turned number place) × IsFirst bs number
+  turned-by g = let k = order-tells bs 0 place (sym h ∙ g) in (k .0, k .1 ∙ numbered place (omega arith), k .2)
+
+  turns : (number : ℕ) → IsFirst bs number → c ≡ turned number place
+  turns number k = h ∙ first-decides bs 0 place number k ∙ numbered place (omega arith)
+
+-- AN ELEMENT
 module _ (place : ℕ) (e : Element) where
-  element-in-order : checkElement place e ≡ inOrder 0 place (true ∷ true ∷ true ∷ true ∷ valueRows e)
+  element-in-order : checkElement place e ≡ inOrder 0 place (elementRows e)
   unfolding checkElement unless inOrder
   element-in-order = rw (then-nothing (unless (isCost (e .cost)) 7 place))
 
-  pub value-turned : {r : Refusal} → checkElement place e ≡ TurnedAway r → (number : ℕ) × (TurnedAway r ≡ turned number place) × IsFirst (true ∷ true ∷ true ∷ true ∷ valueRows e) number
-  value-turned g =
-      let k = order-tells (true ∷ true ∷ true ∷ true ∷ valueRows e) 0 place (sym element-in-order ∙ g) in
-      (k .0, k .1 ∙ numbered place (omega arith), k .2)
+  pub value-turned : {r : Refusal} → checkElement place e ≡ TurnedAway r → (number : ℕ) × (TurnedAway r ≡ turned number place) × IsFirst (elementRows e) number
+  value-turned = turned-by (checkElement place e) place (elementRows e) element-in-order
 
-  pub value-turns : (number : ℕ) → IsFirst (true ∷ true ∷ true ∷ true ∷ valueRows e) number → checkElement place e ≡ turned number place
-  value-turns number k = element-in-order ∙ first-decides (true ∷ true ∷ true ∷ true ∷ valueRows e) 0 place number k ∙ numbered place (omega arith)
+  pub value-turns : (number : ℕ) → IsFirst (elementRows e) number → checkElement place e ≡ turned number place
+  value-turns = turns (checkElement place e) place (elementRows e) element-in-order
 
--- A RECORD IS TURNED AWAY BY A ROW exactly where that is the first
+-- A RECORD
 module _ (before : List Element) (from : List ℕ) (left place : ℕ) (h : places ≡ length before + left) where
-  pub turned-by-first : {r : Refusal} → checkRecord left place from ≡ TurnedAway r → (number : ℕ) × (TurnedAway r ≡ turned number place) × IsFirst (rows before from) number
-  turned-by-first g =
-      let k = order-tells (rows before from) 0 place (sym (record-in-order before from left place h) ∙ g) in
-      (k .0, k .1 ∙ numbered place (omega arith), k .2)
+  record-in-order : checkRecord left place from ≡ inOrder 0 place (rows before from)
+  unfolding checkRecord checkElement unless inOrder
+  record-in-order = rw (room-left (length before) places left h, then-nothing (unless (isCost (elementOf from .cost)) 7 place))
 
-  pub first-turns : (number : ℕ) → IsFirst (rows before from) number → checkRecord left place from ≡ turned number place
-  first-turns number k = record-in-order before from left place h ∙ first-decides (rows before from) 0 place number k ∙ numbered place (omega arith)
+  pub record-turned : {r : Refusal} → checkRecord left place from ≡ TurnedAway r → (number : ℕ) × (TurnedAway r ≡ turned number place) × IsFirst (rows before from) number
+  record-turned = turned-by (checkRecord left place from) place (rows before from) record-in-order
+
+  pub record-turns : (number : ℕ) → IsFirst (rows before from) number → checkRecord left place from ≡ turned number place
+  record-turns = turns (checkRecord left place from) place (rows before from) record-in-order

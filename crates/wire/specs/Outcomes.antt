@@ -29,6 +29,10 @@ rows before from =
     ∷ ltb (length before) places
     ∷ valueRows (elementOf from)
 
+-- of an element in memory: rows 1 to 3 do not look at it
+abbrev pub elementRows : Element → List Bool
+elementRows e = true ∷ true ∷ true ∷ true ∷ valueRows e
+
 -- the first of these rows that does not let pass
 pub record IsFirst (rs : List Bool) (number : ℕ) : Type 0 where
   pub stops : getD rs number true ≡ false
@@ -63,7 +67,7 @@ pub record HasBadValue (t : TaskSet) (number place : ℕ) : Type 0 where
   pub few : t .count ≤ places
   pub counts : place < length (counted t)
   pub before : AllLegal (take place (counted t))
-  pub row : IsFirst (true ∷ true ∷ true ∷ true ∷ valueRows (getD (counted t) place filler)) number
+  pub row : IsFirst (elementRows (getD (counted t) place filler)) number
 
 -- "then 10"
 pub record HasNoRoom (t : TaskSet) (room number place : ℕ) : Type 0 where
