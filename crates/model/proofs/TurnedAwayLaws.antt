@@ -36,7 +36,9 @@ pub then-turned : (a b : Check) {r : Refusal} → ((a then b) ≡ TurnedAway r) 
 then-turned Fine b = (λ h. inr (refl, h), ⊎-elim (λ h. absurd (turned-is-not-fine (sym h))) (λ h. h .1))
 then-turned (TurnedAway q) b = (λ h. inl h, ⊎-elim (λ h. h) (λ h. absurd (turned-is-not-fine (h .0))))
 
-pub unless-turned : (t : Bool) (number place : ℕ) {r : Refusal} → (unless t number place ≡ TurnedAway r) ↔ ((t ≡ false) × (turned number place ≡ TurnedAway r))
+pub unless-turned :
+    (t : Bool) (number place : ℕ) {r : Refusal} →
+    (unless t number place ≡ TurnedAway r) ↔ ((t ≡ false) × (turned number place ≡ TurnedAway r))
 unfolding unless
 unless-turned true number place = (λ h. absurd (turned-is-not-fine (sym h)), λ h. absurd (clash refl (h .0)))
 unless-turned false number place = (λ h. (refl, h), λ h. h .1)
@@ -77,7 +79,10 @@ pub record FirstTurned (s : List Element) (d : Element) (place i : ℕ) (r : Ref
   pub before : AllLegal (take i s)
   pub here : checkElement (place + i) (getD s i d) ≡ TurnedAway r
 
-pub elements-turned : (s : List Element) (d : Element) (place : ℕ) {r : Refusal} → checkElements place s ≡ TurnedAway r → (i : ℕ) × FirstTurned s d place i r
+pub elements-turned :
+    (s : List Element) (d : Element) (place : ℕ) {r : Refusal} →
+    checkElements place s ≡ TurnedAway r →
+    (i : ℕ) × FirstTurned s d place i r
 unfolding checkElements allOver
 elements-turned [] d place h = absurd (turned-is-not-fine (sym h))
 elements-turned (e ∷ s) d place {r} h = go (elements-turned s d (suc place)) (then-turned (checkElement place e) (checkElements (suc place) s) .0 h)

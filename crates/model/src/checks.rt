@@ -1,6 +1,5 @@
 // Document 01, "What is turned away": a set in memory is checked for 3 to 7.
 ghost use mathlib.Core.Path.{_≡_};
-ghost use Prim.Native.Nat.{_<_};
 ghost use Rattle.model.specs.Elements.{within, isPeriod};
 ghost use Rattle.model.specs.TurnedAway.{turned as the-turned, checkElement, checkSet};
 use crate::answers::Check;

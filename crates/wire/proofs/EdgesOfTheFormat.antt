@@ -16,7 +16,10 @@ use Rattle.wire.specs.Reading.{checkRecord, noBytes, checkOf, readNext, 
 use Rattle.wire.specs.Writing.{checkWrite, WrittenNumbers, writtenNumbers, writeSet, bufferAfter}
 
 -- "Numbers are 32 bits, least significant byte first."
-pub numbers-as-bytes : (numberBytes 67305985 ≡ 1 ∷ 2 ∷ 3 ∷ 4 ∷ []) × (numberAt (9 ∷ 1 ∷ 2 ∷ 3 ∷ 4 ∷ []) 1 ≡ 67305985) × (numberAt (255 ∷ 255 ∷ 255 ∷ 255 ∷ []) 0 ≡ 4294967295)
+pub numbers-as-bytes :
+    (numberBytes 67305985 ≡ 1 ∷ 2 ∷ 3 ∷ 4 ∷ [])
+    × (numberAt (9 ∷ 1 ∷ 2 ∷ 3 ∷ 4 ∷ []) 1 ≡ 67305985)
+    × (numberAt (255 ∷ 255 ∷ 255 ∷ 255 ∷ []) 0 ≡ 4294967295)
 unfolding numberBytes
 numbers-as-bytes = (refl, refl, refl)
 

@@ -70,7 +70,11 @@ decide s h = ⊎-elim (λ p. inl (whole p)) (λ p. inr (stopped (p .0) (p .1) (p
     whole : noBytes (k .from) ≡ true → (es : List Element) × AreRecords s es
     whole p = (k .before, record { bytes = k .bytes ∙ rw (no-bytes (k .from) p) (append-nil (recordsOf (k .before))); legal = k .legal; few = few })
 
-    stopped : (r : Refusal) → noBytes (k .from) ≡ false → checkRecord (k .left) (k .at) (k .from) ≡ TurnedAway r → (number : ℕ) × (place : ℕ) × AreRefused s number place
+    stopped :
+        (r : Refusal) →
+        noBytes (k .from) ≡ false →
+        checkRecord (k .left) (k .at) (k .from) ≡ TurnedAway r →
+        (number : ℕ) × (place : ℕ) × AreRefused s number place
     stopped r p q =
         let f = record-turned (k .before) (k .from) (k .left) (k .at) (k .room-is) q in (
           f .0,

@@ -51,7 +51,11 @@ module _ (s : List ℕ) (t : TaskSet) (left : List ℕ) (k : Reading s t left) w
   pub count-is : t .count ≡ length (k .got)
   count-is = ap (λ x. x .count) (k .table)
 
-  pub stop : (r : Record) → readNext (places - t .count) (length s - length left) left ≡ r → NoElement r → handedBack (checkOf r) t ≡ readSet s
+  pub stop :
+      (r : Record) →
+      readNext (places - t .count) (length s - length left) left ≡ r →
+      NoElement r →
+      handedBack (checkOf r) t ≡ readSet s
   unfolding readSet
   stop (answer.Element e) h o = no-element e o
   stop (answer.Refused r) h o =
@@ -59,7 +63,14 @@ module _ (s : List ℕ) (t : TaskSet) (left : List ℕ) (k : Reading s t left) w
       rw (k .check, records-stop (length s - length left) left (places - length (k .got)) (f .0) (f .1))
   stop answer.End h o =
       let f = answer-tells (places - length (k .got)) (length s - length left) left (rw count-is at h) in
-      rw (k .check, k .elements, records-end (length s - length left) left (places - length (k .got)) f, elements-end (places - length (k .got)) left f, append-nil, k .table)
+      rw (
+        k .check,
+        k .elements,
+        records-end (length s - length left) left (places - length (k .got)) f,
+        elements-end (places - length (k .got)) left f,
+        append-nil,
+        k .table,
+      )
 
   module _ {e : Element} (h : readNext (places - t .count) (length s - length left) left ≡ answer.Element e) where
     found : IsElement left × (1 ≤ places - t .count) × (elementOf left ≡ e)
@@ -77,7 +88,9 @@ module _ (s : List ℕ) (t : TaskSet) (left : List ℕ) (k : Reading s t left) w
       table = rw (k .table) (with-next (k .got) e few);
       few = omega (arith, few, length-append (k .got) (e ∷ []));
       within = rw (rest-is, length-drop) (omega (arith, k .within));
-      check = rw (k .check, fewer, records-next _ left _ (found .0), rest-is, length-drop) (ap (λ n. checkRecords (places - length (k .got ++ (e ∷ []))) n (drop (recordSize left) left)) (omega (arith, found .0 .whole, k .within)));
+      check =
+          rw (k .check, fewer, records-next _ left _ (found .0), rest-is, length-drop)
+          (ap (λ n. checkRecords (places - length (k .got ++ (e ∷ []))) n (drop (recordSize left) left)) (omega (arith, found .0 .whole, k .within)));
       elements = rw (k .elements, fewer, elements-next _ left (found .0), found .2, rest-is, append-assoc);
     }
       where

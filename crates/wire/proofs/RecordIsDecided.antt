@@ -26,7 +26,10 @@ unfolding readRecord readNext noBytes
 end-is-answered s = (λ h. no-bytes s (answer-tells places 0 s h), λ h. rw h)
 
 -- THEOREM: an element is answered exactly where the bytes start with its record, and it is legal
-pub element-is-answered : (s : List ℕ) (e : Element) → AllBytes s → (readRecord s ≡ answer.Element e) ↔ ((t : List ℕ) × (s ≡ recordOf e ++ t) × (isLegal e ≡ true))
+pub element-is-answered :
+    (s : List ℕ) (e : Element) →
+    AllBytes s →
+    (readRecord s ≡ answer.Element e) ↔ ((t : List ℕ) × (s ≡ recordOf e ++ t) × (isLegal e ≡ true))
 unfolding readRecord
 element-is-answered s e h = (found, back)
   where
@@ -36,7 +39,10 @@ element-is-answered s e h = (found, back)
         (drop (recordSize s) s, read-is-written s h (k .0) ∙ ap (λ x. recordOf x ++ drop (recordSize s) s) (k .2), rw (← k .2) (k .0 .legal))
 
     back : (t : List ℕ) × (s ≡ recordOf e ++ t) × (isLegal e ≡ true) → readRecord s ≡ answer.Element e
-    back k = rw (k .1) (element-answers places 0 (recordOf e ++ k .0) (written-is-element (k .0) e (k .2)) (omega arith) ∙ ap answer.Element (written-is-read (k .0) e (k .2)))
+    back k =
+        rw (k .1)
+        (element-answers places 0 (recordOf e ++ k .0) (written-is-element (k .0) e (k .2)) (omega arith)
+        ∙ ap answer.Element (written-is-read (k .0) e (k .2)))
 
 -- THEOREM: a refusal is answered exactly by the first row that does not let the record pass, at place 0
 pub refusal-is-answered :

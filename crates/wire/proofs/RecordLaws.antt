@@ -111,7 +111,14 @@ module _ (s : List ℕ) (h : AllBytes s) where
       ∙ ap (λ n. numberBytes (numberAt s k) ++ drop n s) e
     where
       four : drop k s ≡ getD s k 0 ∷ getD s (k + 1) 0 ∷ getD s (k + 2) 0 ∷ getD s (k + 3) 0 ∷ drop (k + 4) s
-      four = simp towards-suc (rw (drop-cons s k 0 (omega arith), drop-cons s (suc k) 0 (omega arith), drop-cons s (suc (suc k)) 0 (omega arith), drop-cons s (suc (suc (suc k))) 0 (omega arith)))
+      four =
+          simp towards-suc
+          (rw (
+            drop-cons s k 0 (omega arith),
+            drop-cons s (suc k) 0 (omega arith),
+            drop-cons s (suc (suc k)) 0 (omega arith),
+            drop-cons s (suc (suc (suc k))) 0 (omega arith),
+          ))
 
   three-cut :
       (k : ℕ) →

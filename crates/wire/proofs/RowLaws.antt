@@ -45,7 +45,10 @@ one-later bs i h = record { stops = h .stops; first = earlier }
 numbered : {m n : ℕ} (place : ℕ) → m ≡ n → turned m place ≡ turned n place
 numbered place h = ap (λ number. turned number place) h
 
-order-tells : (bs : List Bool) (n place : ℕ) {r : Refusal} → inOrder n place bs ≡ TurnedAway r → (i : ℕ) × (TurnedAway r ≡ turned (n + i) place) × IsFirst bs i
+order-tells :
+    (bs : List Bool) (n place : ℕ) {r : Refusal} →
+    inOrder n place bs ≡ TurnedAway r →
+    (i : ℕ) × (TurnedAway r ≡ turned (n + i) place) × IsFirst bs i
 unfolding inOrder unless
 order-tells [] n place h = let z : _≡_ {A = ℕ} 0 1 = cc in absurd (omega arith)
 order-tells (false ∷ bs) n place h = (0, sym h ∙ numbered place (omega arith), record { stops = refl; first = λ j l. absurd (omega arith) })
@@ -84,7 +87,10 @@ module _ (place : ℕ) (e : Element) where
   unfolding checkElement unless inOrder
   element-in-order = rw (then-nothing (unless (isCost (e .cost)) 7 place))
 
-  pub value-turned : {r : Refusal} → checkElement place e ≡ TurnedAway r → (number : ℕ) × (TurnedAway r ≡ turned number place) × IsFirst (elementRows e) number
+  pub value-turned :
+      {r : Refusal} →
+      checkElement place e ≡ TurnedAway r →
+      (number : ℕ) × (TurnedAway r ≡ turned number place) × IsFirst (elementRows e) number
   value-turned = turned-by (checkElement place e) place (elementRows e) element-in-order
 
   pub value-turns : (number : ℕ) → IsFirst (elementRows e) number → checkElement place e ≡ turned number place
@@ -96,7 +102,10 @@ module _ (before : List Element) (from : List ℕ) (left place : ℕ) (h : place
   unfolding checkRecord checkElement unless inOrder
   record-in-order = rw (room-left (length before) places left h, then-nothing (unless (isCost (elementOf from .cost)) 7 place))
 
-  pub record-turned : {r : Refusal} → checkRecord left place from ≡ TurnedAway r → (number : ℕ) × (TurnedAway r ≡ turned number place) × IsFirst (rows before from) number
+  pub record-turned :
+      {r : Refusal} →
+      checkRecord left place from ≡ TurnedAway r →
+      (number : ℕ) × (TurnedAway r ≡ turned number place) × IsFirst (rows before from) number
   record-turned = turned-by (checkRecord left place from) place (rows before from) record-in-order
 
   pub record-turns : (number : ℕ) → IsFirst (rows before from) number → checkRecord left place from ≡ turned number place

@@ -44,7 +44,12 @@ module _ (room : ℕ) (t : List ℕ) where
   elements-then (e ∷ s) (suc n) h g =
       let left = recordsOf s ++ t in
       let legal = and-left (isLegal e) (allOver s isLegal) h in
-      rw (append-assoc (recordOf e) (recordsOf s) t, elements-next n (recordOf e ++ left) (written-is-element left e legal), written-is-read left e legal, written-rest left e)
+      rw (
+        append-assoc (recordOf e) (recordsOf s) t,
+        elements-next n (recordOf e ++ left) (written-is-element left e legal),
+        written-is-read left e legal,
+        written-rest left e,
+      )
       (ap (λ l. e ∷ l) (elements-then s n (and-right (isLegal e) (allOver s isLegal) h) (omega arith)))
 
 -- WHERE READING STOPS
@@ -65,7 +70,17 @@ pub record Split (room place : ℕ) (s : List ℕ) : Type 0 where
 
 at-once : (room place : ℕ) (s : List ℕ) → Stops room place s → Split room place s
 unfolding allOver recordsOf
-at-once room place s h = record { before = []; from = s; left = room; at = place; bytes = refl; legal = refl; room-is = omega arith; at-is = omega arith; stops = h }
+at-once room place s h = record {
+  before = [];
+  from = s;
+  left = room;
+  at = place;
+  bytes = refl;
+  legal = refl;
+  room-is = omega arith;
+  at-is = omega arith;
+  stops = h;
+}
 
 -- one element more in front
 one-more : (room place : ℕ) (s : List ℕ) → AllBytes s → IsElement s → Split room (place + recordSize s) (drop (recordSize s) s) → Split (suc room) place s
@@ -95,7 +110,9 @@ split zero place s h = go (noBytes s) (checkRecord 0 place s) refl refl
     go true c p q = at-once 0 place s (inl p)
     go false (TurnedAway r) p q = at-once 0 place s (inr (r, p, q))
     go false Fine p q = absurd (omega (arith, record-fine 0 place s .0 q .1))
-split (suc room) place s h = go (noBytes s) (checkRecord (suc room) place s) refl refl (split room (place + recordSize s) (drop (recordSize s) s) (bytes-drop (recordSize s) s h))
+split (suc room) place s h =
+    go (noBytes s) (checkRecord (suc room) place s) refl refl
+    (split room (place + recordSize s) (drop (recordSize s) s) (bytes-drop (recordSize s) s h))
   where
     go :
         (b : Bool) (c : Check) →

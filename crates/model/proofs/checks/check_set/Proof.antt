@@ -45,7 +45,9 @@ enum-told-2 c = search needs
 returns-2 : tie.Need-returns-2 Inv-loop μ-loop
 returns-2 c =
     let told = c .enum-told2 .given .1 in
-    told ∙ found _ (long (c .before .before .before .before .before .before .before)) _ (c .before .before .before .before .before .loop .inv) filler (c .before .before .before .before .loop-test .taken) (sym (c .before .before .check-element .ensures) ∙ told)
+    told
+    ∙ found _ (long (c .before .before .before .before .before .before .before)) _ (c .before .before .before .before .before .loop .inv) filler (c .before .before .before .before .loop-test .taken)
+    (sym (c .before .before .check-element .ensures) ∙ told)
 
 add-i : tie.Need-add-i Inv-loop μ-loop
 add-i c = omega arith
@@ -54,7 +56,9 @@ loop-less : tie.Need-loop-less Inv-loop μ-loop
 loop-less c = omega arith
 
 loop-again : tie.Need-loop-again Inv-loop μ-loop
-loop-again c = next _ (long (c .before .before .before .before .before .before .before)) _ (c .before .before .before .before .before .loop .inv) filler (c .before .before .before .before .loop-test .taken) (sym (c .before .before .check-element .ensures) ∙ c .enum-told .given .1)
+loop-again c =
+    next _ (long (c .before .before .before .before .before .before .before)) _ (c .before .before .before .before .before .loop .inv) filler (c .before .before .before .before .loop-test .taken)
+    (sym (c .before .before .check-element .ensures) ∙ c .enum-told .given .1)
 
 returns-3 : tie.Need-returns-3 Inv-loop μ-loop
 returns-3 c = end _ (long (c .before .before .before)) _ (c .before .loop .inv) (c .loop-test .left)

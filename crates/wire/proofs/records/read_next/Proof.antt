@@ -62,7 +62,10 @@ returns-4 c =
 
 element-of-requires : tie.Need-element-of-requires
 unfolding recordSize
-element-of-requires c κs = (sym (c .before .before .before .before .is-kind .ensures) ∙ not-false _ (c .before .before .before .if2 .left), rw (c .before .before .size-of .ensures) at (c .before .if3 .left))
+element-of-requires c κs = (
+  sym (c .before .before .before .before .is-kind .ensures) ∙ not-false _ (c .before .before .before .if2 .left),
+  rw (c .before .before .size-of .ensures) at (c .before .if3 .left),
+)
 
 check-element-requires : tie.Need-check-element-requires
 check-element-requires c κs = search needs

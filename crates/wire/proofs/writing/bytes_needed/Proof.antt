@@ -1,10 +1,11 @@
 -- `wire::writing::bytes_needed` meets its contract. Assumes nothing.
-use Prim.Native.Nat.{_-_}
+use Prim.Native.Nat.{_+_, _-_}
 use mathlib.Core.Path.{_≡_, sym, _∙_}
 use native.Mathlib.Omega.{arith}
-use lib.ListN.{length, length-map}
+use lib.ListN.{length, getD, length-map}
 use borrow.Author.Needs.{needs}
 use Rattle.model.specs.Elements.{places, filler}
+use Rattle.wire.specs.Format.{recordOf}
 use Rattle.wire.proofs.WritingASet.{Sizing, sizing-start, sizing-end, sizing-next}
 use Rattle.wire.proofs.writing.bytes_needed.Statement.{statement}
 use Rattle.wire.proofs.writing.bytes_needed.Tie as tie
@@ -30,8 +31,17 @@ element-copy-out-e c = omega arith
 record-size-requires : tie.Need-record-size-requires Inv-loop μ-loop
 record-size-requires c κs = search needs
 
+-- one round: what holds where the next element's turn comes
+round : (c : tie.After-record-size Inv-loop μ-loop) →
+    let t = c .before .before .before .before .args .t1 in
+    let k = c .before .before .before .loop in
+    Sizing t (k .i + 1) (k .needed + length (recordOf (getD (t .table) (k .i) filler)))
+round c =
+    let s = c .before .before .before .before in
+    sizing-next _ (long s) (s .pre) _ _ (c .before .before .before .loop .inv) filler (c .before .before .loop-test .taken)
+
 add-needed : tie.Need-add-needed Inv-loop μ-loop
-add-needed c = rw (c .record-size .ensures) (omega (arith, sizing-next _ (long (c .before .before .before .before)) (c .before .before .before .before .pre) _ _ (c .before .before .before .loop .inv) filler (c .before .before .loop-test .taken) .small))
+add-needed c = rw (c .record-size .ensures) (omega (arith, round c .small))
 
 add-i : tie.Need-add-i Inv-loop μ-loop
 add-i c = omega arith
@@ -40,10 +50,10 @@ loop-less : tie.Need-loop-less Inv-loop μ-loop
 loop-less c = omega arith
 
 loop-again : tie.Need-loop-again Inv-loop μ-loop
-loop-again c = rw (c .record-size .ensures) (sizing-next _ (long (c .before .before .before .before)) (c .before .before .before .before .pre) _ _ (c .before .before .before .loop .inv) filler (c .before .before .loop-test .taken))
+loop-again c = rw (c .record-size .ensures) (round c)
 
 returns : tie.Need-returns Inv-loop μ-loop
-returns c = sizing-end _ (long (c .before .before)) (c .before .before .pre) _ _ (c .before .loop .inv) (c .loop-test .left)
+returns c = let s = c .before .before in sizing-end _ (long s) (s .pre) _ _ (c .before .loop .inv) (c .loop-test .left)
 
 pub bytes-needed-spec : {M : Type 1} → statement M
 bytes-needed-spec =

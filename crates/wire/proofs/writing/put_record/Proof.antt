@@ -28,7 +28,12 @@ unfolding recordOf
 returns c =
     let a = c .before .before .before .before .before .before .before .before .before .before .args in
     let e = a .e in
-    two-runs (a .out .now) _ _ (startOf (e .period)) (numberBytes (e .offset) ++ numberBytes (e .deadline) ++ numberBytes (e .cost)) (a .at) (a .at + c .before .before .before .before .start-size .result) (c .before .before .before .before .before .before .before .put-start .ensures) (c .before .before .put-three .ensures) (omega (arith, c .before .before .before .before .start-size .ensures))
+    let size = c .before .before .before .before .start-size in
+    let three = numberBytes (e .offset) ++ numberBytes (e .deadline) ++ numberBytes (e .cost) in
+    two-runs (a .out .now) _ _ (startOf (e .period)) three (a .at) (a .at + size .result)
+    (c .before .before .before .before .before .before .before .put-start .ensures)
+    (c .before .before .put-three .ensures)
+    (omega (arith, size .ensures))
 
 pub put-record-spec : {M : Type 1} → statement M
 put-record-spec =

@@ -29,8 +29,14 @@ same-length c = search needs
 returns : tie.Need-returns
 returns c =
     let a = c .before .before .before .before .before .before .before .before .before .before .before .before .before .args in
-    let two = two-runs (a .out .now) _ _ (numberBytes (a .a)) (numberBytes (a .b)) (a .at) (a .at + 4) (c .before .before .before .before .before .before .before .before .before .before .put-number .ensures) (c .before .before .before .before .before .before .put-number2 .ensures) (omega (arith, number-length (a .a))) in
-    two-runs (a .out .now) _ _ (numberBytes (a .a) ++ numberBytes (a .b)) (numberBytes (a .c)) (a .at) (a .at + 8) two (c .before .before .put-number3 .ensures) (omega (arith, two-length (a .a) (a .b)))
+    let l = a .out .now in
+    let x = numberBytes (a .a) in
+    let y = numberBytes (a .b) in
+    let first = c .before .before .before .before .before .before .before .before .before .before .put-number .ensures in
+    let second = c .before .before .before .before .before .before .put-number2 .ensures in
+    let third = c .before .before .put-number3 .ensures in
+    let two = two-runs l _ _ x y (a .at) (a .at + 4) first second (omega (arith, number-length (a .a))) in
+    two-runs l _ _ (x ++ y) (numberBytes (a .c)) (a .at) (a .at + 8) two third (omega (arith, two-length (a .a) (a .b)))
 
 pub put-three-spec : {M : Type 1} → statement M
 put-three-spec =

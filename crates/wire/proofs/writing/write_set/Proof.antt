@@ -43,7 +43,10 @@ same-length : tie.Need-same-length
 same-length c = search needs
 
 returns-3 : tie.Need-returns-3
-returns-3 c = write-done _ _ (fine (c .before .before .before .before .before .before)) (c .before .before .before .before .before .bytes-needed .ensures) (c .before .before .before .before .if1 .left) (c .before .before .put-records .ensures)
+returns-3 c =
+    write-done _ _ (fine (c .before .before .before .before .before .before)) (c .before .before .before .before .before .bytes-needed .ensures)
+    (c .before .before .before .before .if1 .left)
+    (c .before .before .put-records .ensures)
 
 pub write-set-spec : {M : Type 1} → statement M
 write-set-spec =
