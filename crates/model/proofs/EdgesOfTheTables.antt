@@ -11,7 +11,7 @@ use Rattle.model.specs.Number.{gcdIn, gcd, lcm, least, someBelow}
 use Rattle.model.specs.Over.{sumOver, largestOver, someOver}
 use Rattle.model.specs.Elements.{within, isPeriod, isOffset, isDeadline, isCost, filler}
 use Rattle.model.specs.Demand.{F, H, demandOf, D, loadIn, isTestOf, isTest}
-use Rattle.model.specs.Answers.{refused, numbers}
+use Rattle.model.specs.Answers.{told, refused, numbers}
 use Rattle.model.specs.ExactTest.{isOverrun, multiple, overloadAt, failing, stop, exact}
 use Rattle.model.specs.Superposition.{scaledBy, scaledIn, isAbove, isVisited}
 use Rattle.model.specs.TurnedAway.{turned, unless, checkElement, checkElements, checkSet, firstAbove, checkH, checkK, isLarge, isLargeAt, meetsLarge, exactIsLarge, superpositionIsLarge, analysis, superpositionAnswer}
@@ -43,10 +43,12 @@ pub refusals-in-order :
     × (checkSet (fillers 0) ≡ Fine)
     × (checkSet (fillers 128) ≡ turned 6 0)
     × (checkSet (fillers 129) ≡ turned 3 128)
+    × (told (checkSet (fillers 0)) ≡ record { refusal = 0; place = 0 })
+    × (told (checkSet (fillers 129)) ≡ record { refusal = 3; place = 128 })
     × (numbers (superpositionAnswer 0 (fillers 129)) ≡ refused 9 0)
     × (numbers (superpositionAnswer 1 (fillers 129)) ≡ refused 3 128)
 unfolding within isPeriod isOffset isDeadline isCost unless checkElement checkElements checkSet checkK analysis superpositionAnswer
-refusals-in-order = (refl, refl, refl, refl, refl, refl, refl, refl, refl)
+refusals-in-order = (refl, refl, refl, refl, refl, refl, refl, refl, refl, refl, refl)
 
 pub k-at-its-edges : (checkK 0 ≡ turned 9 0) × (checkK 1 ≡ Fine) × (checkK 255 ≡ Fine) × (checkK 256 ≡ turned 9 0)
 unfolding within unless checkK
