@@ -35,7 +35,7 @@ pub within-is : (low high x : ℕ) → within low high x ≡ true → Within low
 unfolding within
 within-is low high x h = (leb-true low x (and-left (leb low x) (leb x high) h), leb-true x high (and-right (leb low x) (leb x high) h))
 
-period-is : (q : Period) → isPeriod q ≡ true → Runs q
+pub period-is : (q : Period) → isPeriod q ≡ true → Runs q
 unfolding isPeriod
 period-is Once h = tt
 period-is (Every p) h = within-is 1 mostPeriod p h

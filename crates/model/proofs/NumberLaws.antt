@@ -7,8 +7,8 @@ use native.Mathlib.Omega.{arith}
 use native.Mathlib.Nat.{dvd-refl, dvd-zero, dvd-mod-iff, dvd-add-iff-right, mod-lt, dvd-mul-right-of-dvd, dvd-mul-left, dvd-mul-right, div-add-mod, mul-dvd-mul-left, mul-dvd-mul-right, div-mul-cancel, dvd-of-mul-dvd-mul-right, pos-of-dvd-of-pos, mul-pos, zero-lt-suc, mul-comm}
 use lib.Dec.{ltb}
 use borrow.Author.Tests.{lt-ltb, le-ltb}
-use Rattle.model.specs.Number.{gcdIn, gcd, lcm, least, howMany}
-use Rattle.model.proofs.Cases.{test, lt-or-le}
+use Rattle.model.specs.Number.{gcdIn, gcd, lcm, least, someBelow, howMany}
+use Rattle.model.proofs.Cases.{test, clash, lt-or-le}
 
 -- THE LEAST COMMON MULTIPLE
 gcdIn-divides : (n a b : ℕ) → b ≤ n → (gcdIn n a b ∣ a) × (gcdIn n a b ∣ b)
@@ -29,10 +29,35 @@ gcdIn-greatest (suc n) a (suc b) m x h p q =
     (dvd-add-iff-right x (dvd-mul-right-of-dvd x q (a / suc b)) .1
     (subst (λ y. x ∣ y) (omega (arith, ap (λ z. m * z) (div-add-mod a (suc b)))) p))
 
+-- as many steps as one likes, from b on
+gcdIn-enough : (n m a b : ℕ) → b ≤ n → b ≤ m → gcdIn n a b ≡ gcdIn m a b
+unfolding gcdIn
+gcdIn-enough zero zero a b h l = refl
+gcdIn-enough zero (suc m) a zero h l = refl
+gcdIn-enough zero (suc m) a (suc b) h l = absurd (omega arith)
+gcdIn-enough (suc n) zero a zero h l = refl
+gcdIn-enough (suc n) zero a (suc b) h l = absurd (omega arith)
+gcdIn-enough (suc n) (suc m) a zero h l = refl
+gcdIn-enough (suc n) (suc m) a (suc b) h l =
+    let r = mod-lt a (zero-lt-suc b) in
+    gcdIn-enough n m (suc b) (a % suc b) (omega arith) (omega arith)
+
+pub gcd-step : (a b : ℕ) → 0 < b → gcd a b ≡ gcd b (a % b)
+unfolding gcd gcdIn
+gcd-step a zero h = absurd (omega arith)
+gcd-step a (suc b) h = gcdIn-enough b (a % suc b) (suc b) (a % suc b) (omega (arith, mod-lt a (zero-lt-suc b))) (omega arith)
+
+pub gcd-zero : (a : ℕ) → gcd a 0 ≡ a
+unfolding gcd gcdIn
+gcd-zero a = refl
+
 module _ (a b : ℕ) where
   gcd-divides : (gcd a b ∣ a) × (gcd a b ∣ b)
   unfolding gcd
   gcd-divides = gcdIn-divides b a b (omega arith)
+
+  pub gcd-positive : 0 < a → 0 < gcd a b
+  gcd-positive h = pos-of-dvd-of-pos (gcd-divides .0) h
 
   lcm-gcd : lcm a b * gcd a b ≡ a * b
   unfolding lcm
@@ -94,6 +119,30 @@ module _ (t : ℕ → Bool) where
       go (inl r) = (r .1, omega (arith, r .0))
       go (inr r) = (rw (r .0) (record { passes = p; none = r .1 }), omega (arith, r .0))
 
+  -- where none passes, n is found; a first one up to n is
+  pub least-none : (n : ℕ) → None n → least t n ≡ n
+  least-none n q = ⊎-elim (λ r. absurd (clash (r .1 .passes) (q (least t n) (r .0)))) (λ r. r .0) (least-is n)
+
+  pub least-at : (n i : ℕ) → i ≤ n → IsFirst i → least t n ≡ i
+  least-at n i l f = ⊎-elim
+      (λ (h : i < n). ⊎-elim
+      (λ r. ⊎-elim
+      (λ a. absurd (clash (r .1 .passes) (f .none (least t n) a)))
+      (λ a. ⊎-elim (λ b. absurd (clash (f .passes) (r .1 .none i b))) (λ b. omega arith) (lt-or-le i (least t n)))
+      (lt-or-le (least t n) i))
+      (λ r. absurd (clash (f .passes) (r .1 i h)))
+      (least-is n))
+      (λ (h : n ≤ i). omega (arith, least-none n (λ j a. f .none j (omega arith))))
+      (lt-or-le i n)
+
+  pub some-below : (n i : ℕ) → i < n → t i ≡ true → someBelow t n ≡ true
+  unfolding someBelow
+  some-below n i l p = ⊎-elim (λ r. lt-ltb (least t n) n (r .0)) (λ r. absurd (clash p (r .1 i l))) (least-is n)
+
+  pub none-below : (n : ℕ) → None n → someBelow t n ≡ false
+  unfolding someBelow
+  none-below n q = le-ltb (least t n) n (omega (arith, least-none n q))
+
 -- HOW MANY PASS
 one-if : (a b : Bool) → (a ≡ true → b ≡ true) → cond a 1 0 ≤ cond b 1 0
 one-if true b h = rw (h refl) (omega arith)
@@ -104,6 +153,15 @@ module _ (t : ℕ → Bool) where
   unfolding howMany
   howMany-zero = refl
 
+  pub howMany-more : (n : ℕ) → howMany t (suc n) ≡ howMany t n + cond (t n) 1 0
+  unfolding howMany
+  howMany-more n = refl
+
+  pub howMany-most : (n : ℕ) → howMany t n ≤ n
+  unfolding howMany
+  howMany-most zero = omega arith
+  howMany-most (suc n) = omega (arith, howMany-most n, one-if (t n) true (λ h. refl))
+
   -- none passes from n on, for i numbers
   pub howMany-gap : (n i : ℕ) → ((j : ℕ) → n ≤ j → j < n + i → t j ≡ false) → howMany t (n + i) ≡ howMany t n
   unfolding howMany
@@ -111,6 +169,12 @@ module _ (t : ℕ → Bool) where
   howMany-gap n (suc i) q =
       let e : n + suc i ≡ suc (n + i) = omega arith in
       rw (e, q (n + i) (omega arith) (omega arith)) (omega (arith, howMany-gap n i (λ j l u. q j l (omega arith))))
+
+  -- counting further, no fewer
+  pub howMany-rises : (n i : ℕ) → howMany t n ≤ howMany t (n + i)
+  unfolding howMany
+  howMany-rises n zero = let e : n + 0 ≡ n = omega arith in rw e (omega arith)
+  howMany-rises n (suc i) = let e : n + suc i ≡ suc (n + i) = omega arith in rw e (omega (arith, howMany-rises n i))
 
   -- none passes from n on, and none from i on
   pub howMany-all : (n i : ℕ) → ((j : ℕ) → t j ≡ true → j < n) → ((j : ℕ) → t j ≡ true → j < i) → howMany t n ≡ howMany t i

@@ -8,7 +8,7 @@ use Rattle.model.specs.declared.answers.Verdict.{Verdict}
 use Rattle.model.specs.declared.answers.Verdict.the-variants.{Passes, Overrun, LoadAboveOne, NotShown}
 use Rattle.model.specs.Elements.{filler, emptySet}
 use Rattle.model.specs.Answers.{values}
-use Rattle.model.specs.TurnedAway.{checkElement, checkSet}
+use Rattle.model.specs.TurnedAway.{checkElement, checkSet, checkK}
 
 pub filler-is-decided : (a b : Element) → a ≡ filler → b ≡ filler → a ≡ b
 filler-is-decided a b p q = p ∙ sym q
@@ -21,6 +21,9 @@ element-check-is-decided place e a b p q = p ∙ sym q
 
 pub set-check-is-decided : (t : TaskSet) (a b : Check) → a ≡ checkSet t → b ≡ checkSet t → a ≡ b
 set-check-is-decided t a b p q = p ∙ sym q
+
+pub k-check-is-decided : (k : ℕ) (a b : Check) → a ≡ checkK k → b ≡ checkK k → a ≡ b
+k-check-is-decided k a b p q = p ∙ sym q
 
 -- the verdict that has these values
 verdictOf : ℕ → ℕ → ℕ → ℕ → Verdict

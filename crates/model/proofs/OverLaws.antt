@@ -5,7 +5,7 @@ use mathlib.Core.Bool.{Bool, true, false, or-true}
 use mathlib.Core.List.{List, [], _∷_}
 use mathlib.Core.Logic.{_⊎_, inl, inr}
 use native.Mathlib.Omega.{arith}
-use lib.ListN.{length, getD}
+use lib.ListN.{length, getD, take}
 use Rattle.model.specs.Over.{sumOver, largestOver, someOver, allOver, Each}
 use Rattle.model.proofs.Cases.{clash, and-left, and-right, or-left, or-right, or-cases}
 
@@ -96,3 +96,55 @@ module _ {A : Type 0} where
   unfolding sumOver
   sum-times [] n g = omega arith
   sum-times (e ∷ s) n g = omega (arith, sum-times s n g)
+
+  -- ONE ELEMENT MORE of a list's first ones, from none on
+  pub sum-none : (s : List A) (g : A → ℕ) → sumOver (take 0 s) g ≡ 0
+  unfolding sumOver
+  sum-none s g = refl
+
+  pub largest-none : (s : List A) (g : A → ℕ) → largestOver (take 0 s) g ≡ 0
+  unfolding largestOver
+  largest-none s g = refl
+
+  pub sum-more : (s : List A) (g : A → ℕ) (d : A) (i : ℕ) → i < length s → sumOver (take (suc i) s) g ≡ sumOver (take i s) g + g (getD s i d)
+  unfolding sumOver
+  sum-more [] g d i h = absurd (omega arith)
+  sum-more (e ∷ s) g d zero h = omega arith
+  sum-more (e ∷ s) g d (suc i) h = omega (arith, sum-more s g d i (omega arith))
+
+  pub largest-more :
+      (s : List A) (g : A → ℕ) (d : A) (i : ℕ) → i < length s → largestOver (take (suc i) s) g ≡ max (largestOver (take i s) g) (g (getD s i d))
+  unfolding largestOver
+  largest-more [] g d i h = absurd (omega arith)
+  largest-more (e ∷ s) g d zero h = omega arith
+  largest-more (e ∷ s) g d (suc i) h = omega (arith, largest-more s g d i (omega arith))
+
+  -- the first n, each at most b
+  pub sum-most : (s : List A) (g : A → ℕ) (d : A) (b n : ℕ) → ((i : ℕ) → i < n → g (getD s i d) ≤ b) → sumOver (take n s) g ≤ n * b
+  unfolding sumOver
+  sum-most s g d b zero h = omega arith
+  sum-most [] g d b (suc n) h = omega arith
+  sum-most (e ∷ s) g d b (suc n) h = omega (arith, h 0 (omega arith), sum-most s g d b n (λ i l. h (suc i) (omega arith)))
+
+  pub largest-most : (s : List A) (g : A → ℕ) (d : A) (b n : ℕ) → ((i : ℕ) → i < n → g (getD s i d) ≤ b) → largestOver (take n s) g ≤ b
+  unfolding largestOver
+  largest-most s g d b zero h = omega arith
+  largest-most [] g d b (suc n) h = omega arith
+  largest-most (e ∷ s) g d b (suc n) h = omega (arith, h 0 (omega arith), largest-most s g d b n (λ i l. h (suc i) (omega arith)))
+
+  -- THE FIRST ONES
+  pub each-take : (P : A → Type 0) (s : List A) (n : ℕ) → Each s P → Each (take n s) P
+  each-take P s zero p = tt
+  each-take P [] (suc n) p = tt
+  each-take P (e ∷ s) (suc n) p = (p .0, each-take P s n (p .1))
+
+  -- one more of them
+  pub each-more : (P : A → Type 0) (s : List A) (d : A) (i : ℕ) → i < length s → Each (take i s) P → P (getD s i d) → Each (take (suc i) s) P
+  each-more P [] d i h p q = absurd (omega arith)
+  each-more P (e ∷ s) d zero h p q = (q, tt)
+  each-more P (e ∷ s) d (suc i) h p q = (p .0, each-more P s d i (omega arith) (p .1) q)
+
+  pub each-less : (P : A → Type 0) (s : List A) (d : A) (i : ℕ) → i < length s → Each (take (suc i) s) P → Each (take i s) P × P (getD s i d)
+  each-less P [] d i h p = absurd (omega arith)
+  each-less P (e ∷ s) d zero h p = (tt, p .0)
+  each-less P (e ∷ s) d (suc i) h p = let r = each-less P s d i (omega arith) (p .1) in ((p .0, r .0), r .1)

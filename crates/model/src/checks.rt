@@ -1,12 +1,13 @@
-// Document 01, "What is turned away": a set in memory is checked for 3 to 7.
+// Document 01, "What is turned away": a set in memory is checked for 3 to 7, and k for 9.
 ghost use mathlib.Core.Path.{_≡_};
 ghost use Rattle.model.specs.Elements.{within, isPeriod};
-ghost use Rattle.model.specs.TurnedAway.{turned as the-turned, checkElement, checkSet};
+ghost use Rattle.model.specs.TurnedAway.{turned as the-turned, checkElement, checkSet, checkK};
 use crate::answers::Check;
 use crate::answers::Refusal;
 use crate::elements::Element;
 use crate::elements::MOST_COST;
 use crate::elements::MOST_DEADLINE;
+use crate::elements::MOST_K;
 use crate::elements::MOST_OFFSET;
 use crate::elements::MOST_PERIOD;
 use crate::elements::PLACES;
@@ -50,6 +51,16 @@ pub fn check_element(place: usize, e: Element) -> Check
     }
     if !is_within(1, MOST_COST, e.cost) {
         return turned(7, place);
+    }
+    Check::Fine
+}
+
+// 9: k out of range.
+pub fn check_k(k: u32) -> Check
+    ensures { λ r. ⌜ r ≡ checkK k ⌝ }
+{
+    if !is_within(1, MOST_K, k) {
+        return turned(9, 0);
     }
     Check::Fine
 }

@@ -1,10 +1,10 @@
 -- Laws of specs/Demand, of one element: how its demand grows, and which lengths are its test lengths. Assumes nothing.
 use Prim.Native.Nat.{ℕ, suc, _+_, _*_, _-_, _/_, _%_, _≤_, _<_}
 use mathlib.Core.Path.{_≡_, refl, ap, sym, _∙_}
-use mathlib.Core.Bool.{true, false}
+use mathlib.Core.Bool.{true, false, cond}
 use mathlib.Core.Logic.{⊎-elim, _↔_}
 use native.Mathlib.Omega.{arith}
-use native.Mathlib.Nat.{mul-div-cancel', add-mul-div-left, mul-mod-left, mod-lt, zero-mod, div-add-mod', pos-of-ne-zero, le-div-iff-mul-le, div-mul-le-self, le-trans, mul-le-mul-right}
+use native.Mathlib.Nat.{mul-div-cancel', add-mul-div-left, mul-mod-left, mod-lt, zero-mod, zero-div, div-add-mod', pos-of-ne-zero, le-div-iff-mul-le, div-mul-le-self, le-trans, mul-le-mul-right}
 use lib.Arith.{digits-div}
 use lib.Dec.{leb}
 use borrow.Author.Tests.{lt-ltb, le-ltb, le-leb, leb-true, eq-eqb, eqb-true, eqb-false}
@@ -14,7 +14,7 @@ use Rattle.model.specs.declared.elements.Element.{Element}
 use Rattle.model.specs.Demand.{f, dues, demandOf, turns, onDate, isTestOf}
 use Rattle.theory.specs.Multiples.{Divides}
 use Rattle.theory.specs.TestLengths.{IsDate}
-use Rattle.model.proofs.Cases.{clash, lt-or-le, and-both, and-left, and-right}
+use Rattle.model.proofs.Cases.{test, clash, lt-or-le, and-both, and-left, and-right}
 use Rattle.model.proofs.ElementLaws.{Runs, Legal}
 
 -- DEMAND BY CASES
@@ -107,3 +107,35 @@ test-of e I = (
   λ t. date-of (e .period) (f e) I (leb-true (f e) I (and-left (leb (f e) I) (onDate (e .period) (I - f e)) t)) (and-right (leb (f e) I) (onDate (e .period) (I - f e)) t),
   λ d. let o = of-date (e .period) (f e) I d in and-both (leb (f e) I) (onDate (e .period) (I - f e)) (le-leb (f e) I (o .0)) (o .1),
 )
+
+-- IT STEPS by the cost at a test length
+dues-steps : (q : Period) (x : ℕ) → Runs q → onDate q (suc x) ≡ true → dues q (suc x) ≡ dues q x + 1
+dues-steps Once x r o = absurd (omega (arith, eqb-true (suc x) 0 o))
+dues-steps (Every p) x r o =
+    let a = div-add-mod' (suc x) p in
+    let b = eqb-true (suc x % p) 0 o in
+    let n = suc x / p in
+    let c : n ≡ suc (n - 1) = omega (arith, pos-of-ne-zero (λ (z : n ≡ 0). omega (arith, ap (λ y. y * p) z))) in
+    let y : (n - 1) * p + (p - 1) ≡ x = omega (arith, ap (λ z. z * p) c, r .0) in
+    let d = digits-div (n - 1) {m = p} {r = p - 1} (omega (arith, r .0)) in
+    omega (arith, sym (ap (λ z. z / p) y) ∙ d)
+
+dues-first : (q : Period) → dues q 0 ≡ 1
+dues-first Once = refl
+dues-first (Every p) = omega (arith, zero-div p)
+
+pub demandOf-steps : (I : ℕ) (e : Element) → Legal e → demandOf e (suc I) ≡ demandOf e I + cond (isTestOf e (suc I)) (e .cost) 0
+demandOf-steps I e l = ⊎-elim
+    (λ o. rw o (⊎-elim
+    (λ (g : I < f e).
+    let h = date-from (e .period) (f e) (suc I) (test-of e (suc I) .0 o) in
+    let x : suc I - f e ≡ 0 = omega arith in
+    omega (arith, late e (suc I) h, early e I g, ap (λ z. dues (e .period) z * e .cost) x, ap (λ z. z * e .cost) (dues-first (e .period))))
+    (λ (g : f e ≤ I).
+    let h : f e ≤ suc I = omega arith in
+    let x : suc I - f e ≡ suc (I - f e) = omega arith in
+    let n = dues-steps (e .period) (I - f e) (l .period) (sym (on-date e (suc I) _ h x) ∙ o) in
+    omega (arith, late e (suc I) h, late e I g, ap (λ z. dues (e .period) z * e .cost) x, ap (λ z. z * e .cost) n))
+    (lt-or-le I (f e))))
+    (λ o. rw o (omega (arith, demandOf-rests I e l o)))
+    (test (isTestOf e (suc I)))

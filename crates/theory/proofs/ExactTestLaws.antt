@@ -29,6 +29,10 @@ module _ (s : List Element) (I : ℕ) where
   unfolding isOverrun
   is-overrun h = lt-ltb I (D s I) h
 
+  pub not-overrun : D s I ≤ I → isOverrun s I ≡ false
+  unfolding isOverrun
+  not-overrun h = le-ltb I (D s I) h
+
 -- COMPARING LENGTHS: a first visited one that fails, or all visited ones hold
 module _ (c : Lengths) where
   pub record FirstFailing (I : ℕ) : Type 0 where

@@ -19,29 +19,29 @@ joined-positive : (q : Period) (h : ℕ) → Runs q → 0 < h → 0 < joined q h
 joined-positive Once h r k = k
 joined-positive (Every p) h r k = lcm-positive p h (r .0) k
 
-joined-left : (q : Period) (h : ℕ) → Runs q → Divides q (joined q h)
+pub joined-left : (q : Period) (h : ℕ) → Runs q → Divides q (joined q h)
 joined-left Once h r = tt
 joined-left (Every p) h r = lcm-left p h (r .0)
 
-joined-right : (q : Period) (h : ℕ) → h ∣ joined q h
+pub joined-right : (q : Period) (h : ℕ) → h ∣ joined q h
 joined-right Once h = dvd-refl h
 joined-right (Every p) h = lcm-right p h
 
-joined-least : (q : Period) (h n : ℕ) → Runs q → Divides q n → h ∣ n → joined q h ∣ n
+pub joined-least : (q : Period) (h n : ℕ) → Runs q → Divides q n → h ∣ n → joined q h ∣ n
 joined-least Once h n r k d = d
 joined-least (Every p) h n r k d = lcm-least p h n (r .0) k d
 
-divides-trans : (q : Period) (h n : ℕ) → h ∣ n → Divides q h → Divides q n
+pub divides-trans : (q : Period) (h n : ℕ) → h ∣ n → Divides q h → Divides q n
 divides-trans Once h n d k = tt
 divides-trans (Every p) h n d k = dvd-trans p k d
 
 -- ALL
-positive : (s : List Element) → Each s Legal → 1 ≤ H s
+pub positive : (s : List Element) → Each s Legal → 1 ≤ H s
 unfolding H
 positive [] l = omega arith
 positive (e ∷ s) l = joined-positive (e .period) (H s) (l .0 .period) (positive s (l .1))
 
-multiple : (s : List Element) → Each s Legal → CommonMultiple s (H s)
+pub multiple : (s : List Element) → Each s Legal → CommonMultiple s (H s)
 unfolding H
 multiple [] l = tt
 multiple (e ∷ s) l = (
@@ -49,7 +49,7 @@ multiple (e ∷ s) l = (
   each-map s (λ e₁ d. divides-trans (e₁ .period) (H s) _ (joined-right (e .period) (H s)) d) (multiple s (l .1)),
 )
 
-divisor : (s : List Element) (n : ℕ) → Each s Legal → CommonMultiple s n → H s ∣ n
+pub divisor : (s : List Element) (n : ℕ) → Each s Legal → CommonMultiple s n → H s ∣ n
 unfolding H
 divisor [] n l c = one-dvd n
 divisor (e ∷ s) n l c = joined-least (e .period) (H s) n (l .0 .period) (c .0) (divisor s n (l .1) (c .1))

@@ -2,10 +2,13 @@ pub mod DemandLaws
 pub mod ExactTestLaws
 pub mod SuperpositionLaws
 pub mod HyperperiodIsLeast
+pub mod HyperperiodGrows
 pub mod TestLengthsAre
 pub mod DemandRepeats
 pub mod DemandRises
 pub mod DemandRests
+pub mod DemandGrows
+pub mod ScaledDemandGrows
 pub mod OverloadShowsTheFirst
 pub mod ExactShowsTheSmallest
 pub mod SuperpositionAnswers

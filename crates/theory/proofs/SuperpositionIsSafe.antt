@@ -42,7 +42,7 @@ module _ (k h : ℕ) (s : List Element) (l : 1 ≤ k) (legal : Each s Legal) whe
             (each-map₂ s (rises k h l I) legal (none-each s (λ e. isTestOf e (suc I) && leb (suc I) (m k e)) o)),
       )
 
-  scaled-starts : scaledIn k h s 0 ≡ 0
+  pub scaled-starts : scaledIn k h s 0 ≡ 0
   unfolding scaledIn
   scaled-starts = sum-zero s (λ e. scaledBy (e .period) k h e 0) (each-map s (starts k h l) legal)
 

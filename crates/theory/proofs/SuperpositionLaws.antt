@@ -1,22 +1,23 @@
 -- Laws of specs/Superposition: one element's approximated demand, scaled with h. Assumes nothing.
 use Prim.Native.Nat.{ℕ, suc, _+_, _*_, _-_, _/_, _≤_, _<_}
 use mathlib.Core.Path.{_≡_, refl, ap, _∙_}
-use mathlib.Core.Bool.{true, false, _&&_, and-true}
+use mathlib.Core.Bool.{Bool, true, false, cond, and-true, and-false}
 use mathlib.Core.List.{List}
 use mathlib.Core.Logic.{⊎-elim}
 use native.Mathlib.Omega.{arith}
 use native.Mathlib.Nat.{mul-div-cancel', mul-add-div-right, mul-div-cancel, div-mul-le-self, lt-div-mul-add, mul-le-mul-left, mul-le-mul-right}
-use lib.Dec.{leb}
-use borrow.Author.Tests.{le-leb, lt-leb, ltb-true, ltb-false}
+use lib.Dec.{ltb}
+use borrow.Author.Tests.{lt-ltb, le-ltb, le-leb, lt-leb, ltb-true, ltb-false}
 use Rattle.model.specs.declared.elements.Period.{Period}
 use Rattle.model.specs.declared.elements.Period.the-variants.{Once, Every}
 use Rattle.model.specs.declared.elements.Element.{Element}
 use Rattle.model.specs.Demand.{f, H, dues, demandOf, turns, isTestOf}
 use Rattle.model.specs.Superposition.{exactPart, m, scaledBy, HD', isAbove}
 use Rattle.theory.specs.Multiples.{Divides}
+use Rattle.theory.specs.Growth.{isVisitedBy, riseOf}
 use Rattle.model.proofs.Cases.{lt-or-le}
 use Rattle.model.proofs.ElementLaws.{Runs, Legal}
-use Rattle.theory.proofs.DemandLaws.{late, demandOf-rests, demandOf-zero}
+use Rattle.theory.proofs.DemandLaws.{late, demandOf-steps, demandOf-zero}
 
 module _ (k h : ℕ) (l : 1 ≤ k) where
   -- THE LINE of one unit of cost, x ticks past m; flat for a single event
@@ -104,16 +105,31 @@ module _ (k h : ℕ) (l : 1 ≤ k) where
       rw (far e I (g .period) b, past e I b) (omega arith))
       (lt-or-le I (m k e))
 
-  -- it RISES in a tick by its part of the load at most, but at a visited length
-  pub rises :
-      (I : ℕ) (e : Element) → Legal e → (isTestOf e (suc I) && leb (suc I) (m k e)) ≡ false →
-      scaledBy (e .period) k h e (suc I) ≤ scaledBy (e .period) k h e I + e .cost * turns (e .period) h
-  rises I e g o = ⊎-elim
-      (λ b. let o₁ = rw (le-leb (suc I) (m k e) b, and-true) at o in
-      omega (arith, near e (suc I) b, near e I (omega arith), ap (λ z. h * z) (demandOf-rests I e g o₁)))
-      (λ b. let x : suc I - m k e ≡ suc (I - m k e) = omega arith in
-      rw (far e (suc I) (g .period) (omega arith), far e I (g .period) b, x, line-step (e .period) (I - m k e)) (omega arith))
+  -- it STEPS in a tick by the cost, up to m, and past m by the line
+  pub steps :
+      (I : ℕ) (e : Element) → Legal e →
+      scaledBy (e .period) k h e (suc I) ≡ scaledBy (e .period) k h e I + cond (ltb I (m k e)) 0 (riseOf h e) + h * cond (isVisitedBy k (suc I) e) (e .cost) 0
+  steps I e g = ⊎-elim
+      (λ (b : I < m k e).
+      rw (lt-ltb I (m k e) b, and-true (isTestOf e (suc I)))
+      (omega (arith, near e (suc I) b, near e I (omega arith), ap (λ z. h * z) (demandOf-steps I e g))))
+      (λ (b : m k e ≤ I).
+      let x : suc I - m k e ≡ suc (I - m k e) = omega arith in
+      rw (le-ltb I (m k e) b, and-false (isTestOf e (suc I)), far e (suc I) (g .period) (omega arith), far e I (g .period) b, x, line-step (e .period) (I - m k e))
+      (omega arith))
       (lt-or-le I (m k e))
+
+  -- so it RISES by its part of the load at most, but at a visited length
+  pub rises :
+      (I : ℕ) (e : Element) → Legal e → isVisitedBy k (suc I) e ≡ false →
+      scaledBy (e .period) k h e (suc I) ≤ scaledBy (e .period) k h e I + riseOf h e
+  rises I e g o =
+      let s = steps I e g in
+      omega (arith, rw o at s, at-most (ltb I (m k e)) (riseOf h e))
+    where
+      at-most : (b : Bool) (x : ℕ) → cond b 0 x ≤ x
+      at-most true x = omega arith
+      at-most false x = omega arith
 
   pub starts : (e : Element) → Legal e → scaledBy (e .period) k h e 0 ≡ 0
   starts e g = near e 0 (omega arith) ∙ omega (arith, ap (λ z. h * z) (demandOf-zero e g))

@@ -13,21 +13,21 @@ use Rattle.model.specs.declared.answers.Check.{Check}
 use Rattle.model.specs.declared.answers.Check.the-variants.{Fine, TurnedAway}
 use Rattle.model.specs.declared.answers.Verdict.{Verdict}
 use Rattle.model.specs.declared.answers.Answer.the-variants.{Given}
-use Rattle.model.specs.Elements.{mostH, mostK, within, counted}
+use Rattle.model.specs.Elements.{mostH, mostK, counted}
 use Rattle.model.specs.Demand.{H}
 use Rattle.model.specs.ExactTest.{exact}
 use Rattle.model.specs.Superposition.{superposition}
 use Rattle.model.specs.TurnedAway.{_then_, checkSet, firstAbove, checkH, checkK, exactIsLarge, superpositionIsLarge, answered, analysis, exactAnswer, superpositionAnswer}
 use Rattle.theory.specs.Taken.{Taken}
-use Rattle.model.proofs.ElementLaws.{Within, within-is, legal-set}
-use Rattle.model.proofs.TurnedAwayLaws.{then-fine, unless-fine, set-fine}
+use Rattle.model.proofs.ElementLaws.{Within, legal-set}
+use Rattle.model.proofs.TurnedAwayLaws.{then-fine, unless-fine, set-fine, k-fine}
 
 given-fine : (c : Check) (w v : Verdict) → answered c w ≡ Given v → (c ≡ Fine) × (v ≡ w)
 given-fine Fine w v h = (refl, cc)
 given-fine (TurnedAway r) w v h = absurd (let z : _≡_ {A = ℕ} 0 1 = cc in omega arith)
 
 -- a verdict comes after every check, and is the test's own
-verdict-is :
+pub verdict-is :
     (before : Check) (placeOf : ℕ → ℕ) (isTooLarge : List Element → Bool) (verdict : List Element → Verdict) (s : List Element) (v : Verdict) →
     analysis before placeOf isTooLarge verdict s ≡ Given v → (before ≡ Fine) × (checkH placeOf s ≡ Fine) × (v ≡ verdict s)
 unfolding analysis
@@ -56,8 +56,8 @@ exact-verdict-is t v h =
 -- THEOREM: a verdict of superposition
 pub superposition-verdict-is :
     (k : ℕ) (t : TaskSet) (v : Verdict) → superpositionAnswer k t ≡ Given v → Within 1 mostK k × Taken t × (v ≡ superposition k (counted t))
-unfolding superpositionAnswer checkK
+unfolding superpositionAnswer
 superposition-verdict-is k t v h =
     let g = verdict-is (checkK k then checkSet t) (λ place. place) (superpositionIsLarge k) (superposition k) (counted t) v h in
     let b = then-fine (checkK k) (checkSet t) .0 (g .0) in
-    (within-is 1 mostK k (unless-fine (within 1 mostK k) 9 0 .0 (b .0)), taken t (b .1) (g .1), g .2)
+    (k-fine k (b .0), taken t (b .1) (g .1), g .2)

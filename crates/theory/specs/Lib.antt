@@ -3,3 +3,4 @@ pub mod TestLengths
 pub mod Exactness
 pub mod Approximation
 pub mod Taken
+pub mod Growth

@@ -16,14 +16,15 @@ use Rattle.model.specs.declared.elements.Element.{Element}
 use Rattle.model.specs.declared.answers.Refusal.{Refusal}
 use Rattle.model.specs.declared.answers.Check.{Check}
 use Rattle.model.specs.declared.answers.Check.the-variants.{Fine, TurnedAway}
-use Rattle.model.specs.Elements.{places, isLegal}
+use Rattle.model.specs.Over.{allOver}
+use Rattle.model.specs.Elements.{places, isLegal, AllLegal, setOf}
 use Rattle.model.specs.TurnedAway.{unless}
-use Rattle.model.proofs.Cases.{clash}
+use Rattle.model.proofs.Cases.{test, clash}
 use Rattle.model.proofs.TurnedAwayLaws.{then-fine, unless-fine, element-fine}
 use Rattle.wire.specs.declared.records.Record.{Record}
 use Rattle.wire.specs.declared.records.Record.the-variants as answer
 use Rattle.wire.specs.Format.{kindOf, isKind, recordSize, elementOf}
-use Rattle.wire.specs.Reading.{checkRecord, noBytes, answerOf, readNext, readRecord, bytesTaken, restOf, IsRest, checkRecords, elementsIn}
+use Rattle.wire.specs.Reading.{checkRecord, noBytes, answerOf, readNext, readRecord, bytesTaken, restOf, IsRest, checkRecords, elementsIn, handedBack, readSet}
 use Rattle.wire.proofs.records.Record.{the-type}
 use Rattle.wire.proofs.FormatLaws.{some-size}
 
@@ -151,3 +152,37 @@ elements-end (suc room) s h = rw h
 pub elements-next : (room : ℕ) (s : List ℕ) → IsElement s → elementsIn (suc room) s ≡ elementOf s ∷ elementsIn room (drop (recordSize s) s)
 unfolding elementsIn
 elements-next room s h = rw (element-bytes s h)
+
+-- WHERE NO RECORD IS REFUSED: what the bytes start with is an element, and so on with what follows it
+pub records-rest :
+    (room place : ℕ) (s : List ℕ) → checkRecords (suc room) place s ≡ Fine → noBytes s ≡ false →
+    IsElement s × (checkRecords room (place + recordSize s) (drop (recordSize s) s) ≡ Fine)
+unfolding checkRecords
+records-rest room place s h b =
+    let g = then-fine (checkRecord (suc room) place s) _ .0 (rw b at h) in
+    (record-fine (suc room) place s .0 (g .0) .0, g .1)
+
+-- so every element is legal, and there are no more than there was room for
+pub elements-legal :
+    (room place : ℕ) (s : List ℕ) → checkRecords room place s ≡ Fine → AllLegal (elementsIn room s) × (length (elementsIn room s) ≤ room)
+unfolding elementsIn allOver
+elements-legal zero place s h = (refl, omega arith)
+elements-legal (suc room) place s h =
+    let more = elements-legal room (place + recordSize s) (drop (recordSize s) s) in
+    ⊎-elim
+    (λ b. rw b (refl, omega arith))
+    (λ b. let k = records-rest room place s h b in rw (b, k .0 .legal) (more (k .1) .0, omega (arith, more (k .1) .1)))
+    (test (noBytes s))
+
+-- what reading a set hands back
+pub read-check : (s : List ℕ) → readSet s .check ≡ checkRecords places 0 s
+unfolding readSet
+read-check s = go (checkRecords places 0 s)
+  where
+    go : (c : Check) → handedBack c (setOf (elementsIn places s)) .check ≡ c
+    go Fine = refl
+    go (TurnedAway r) = refl
+
+pub read-elements : (s : List ℕ) → checkRecords places 0 s ≡ Fine → readSet s .set ≡ setOf (elementsIn places s)
+unfolding readSet
+read-elements s h = rw h
