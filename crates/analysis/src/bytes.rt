@@ -1,0 +1,46 @@
+// Places in bytes.
+ghost use Prim.Native.Nat.{_≤_};
+ghost use mathlib.Core.Path.{_≡_};
+ghost use lib.ListN.{length};
+ghost use Rattle.model.specs.Elements.{places};
+ghost use Rattle.model.specs.declared.answers.Check.the-variants.{Fine};
+ghost use Rattle.wire.specs.Reading.{checkRecords, elementsIn};
+ghost use Rattle.analysis.specs.InBytes.{kindByte};
+ghost use Rattle.analysis.specs.LegalSets.{inBytes, Placed};
+use model::Answer;
+use model::Refusal;
+use wire::rest;
+
+// The place of the kind byte of the record with this number.
+fn kind_byte(bytes: &[u8], number: usize) -> usize
+    requires { ⌜ checkRecords places 0 (now bytes) ≡ Fine ⌝ }
+    requires { ⌜ number ≤ length (elementsIn places (now bytes)) ⌝ }
+    ensures { λ r. ⌜ r ≡ kindByte (now (bytes .entry)) number ⌝ }
+{
+    let mut left = bytes;
+    let mut i: usize = 0;
+    while i < number {
+        let next = rest(left);
+        left = next;
+        i = i + 1;
+    }
+    bytes.len() - left.len()
+}
+
+// Refusal 8 at its kind byte.
+pub(crate) fn in_bytes(bytes: &[u8], answer: Answer) -> Answer
+    requires { ⌜ checkRecords places 0 (now bytes) ≡ Fine ⌝ }
+    requires { ⌜ Placed (length (elementsIn places (now bytes))) answer ⌝ }
+    ensures { λ r. ⌜ r ≡ inBytes (now (bytes .entry)) answer ⌝ }
+{
+    let Answer::Refused(r) = answer else {
+        return answer;
+    };
+    if r.number != 8 {
+        return answer;
+    }
+    Answer::Refused(Refusal {
+        number: 8,
+        place: kind_byte(bytes, r.place),
+    })
+}
