@@ -29,6 +29,7 @@ use Rattle.model.proofs.Cases.{test, lt-or-le}
 use Rattle.model.proofs.NumberLaws.{least-is}
 use Rattle.model.proofs.ElementLaws.{Within, legal-set}
 use Rattle.model.proofs.TurnedAwayLaws.{then-fine, set-fine, k-fine}
+use Rattle.theory.proofs.DemandRests.{demand-at-zero}
 use Rattle.theory.proofs.OverloadShowsTheFirst.{exact-shows-the-first, superposition-shows-the-first}
 use Rattle.theory.proofs.ExactShowsTheSmallest.{overloaded-exactly-when, shows-the-smallest, otherwise-passes}
 use Rattle.theory.proofs.SuperpositionAnswers.{superposition-answers}
@@ -121,13 +122,27 @@ module _ (x : Input) (v : Verdict) (answer : exactOn x ≡ Given v) where
   pub exact-shows-the-smallest : Q s ≤ H s → values v .verdict ≡ 1 → ShowsTheSmallest s (values v)
   exact-shows-the-smallest load = rw (exact-verdict .1) (shows-the-smallest s (exact-verdict .0) load)
 
-  -- THEOREM: otherwise it passes, and demand exceeds no length
+  -- THEOREM: otherwise it passes, every test length below F + H compared
   pub exact-passes-otherwise : Q s ≤ H s → (Overloaded s → ⊥) → v ≡ Passes (howMany (isTest s) (F s + H s))
   exact-passes-otherwise load none = exact-verdict .1 ∙ otherwise-passes s (exact-verdict .0) load none
 
   -- THEOREM: load above one is shown by an overrun too, the first among F, F + H, F + 2H and so on
   pub exact-shows-load-above-one : H s < Q s → ShowsTheFirst s (values v)
   exact-shows-load-above-one over = rw (exact-verdict .1) (exact-shows-the-first s (exact-verdict .0) over)
+
+  -- THEOREM: if it passes, whatever the load, demand exceeds no length at all
+  pub no-overrun-if-passed : values v .verdict ≡ 0 → (I : ℕ) → D s I ≤ I
+  no-overrun-if-passed passed I = ⊎-elim
+      (λ over. absurd (omega (arith, exact-shows-load-above-one over .verdict)))
+      (λ load. ⊎-elim
+      (λ (o : I < D s I). absurd (omega (arith, exact-says-overloaded-exactly-when load .1 (I, positive I o, o))))
+      (λ (o : D s I ≤ I). o)
+      (lt-or-le I (D s I)))
+      (lt-or-le (H s) (Q s))
+    where
+      positive : (J : ℕ) → J < D s J → 1 ≤ J
+      positive zero o = absurd (omega (arith, demand-at-zero s (exact-verdict .0)))
+      positive (suc J) o = omega arith
 
 -- DEMAND 3
 module _ (k : ℕ) (x : Input) (v : Verdict) (answer : superpositionOn k x ≡ Given v) where
@@ -149,11 +164,6 @@ module _ (k : ℕ) (x : Input) (v : Verdict) (answer : superpositionOn k x ≡ G
   pub superposition-holds-back-or-accepts : Q es ≤ H es → HoldsBack k es (values v) ⊎ Accepts k es (values v)
   superposition-holds-back-or-accepts load = rw (superposition-verdict .2) (superposition-answers k es load)
 
-  -- THEOREM: if it accepts, exact demand exceeds no length at all
-  pub no-overrun-if-accepted : Q es ≤ H es → values v .verdict ≡ 0 → (I : ℕ) → D es I ≤ I
-  no-overrun-if-accepted load =
-      rw (superposition-verdict .2) (no-overrun-if-superposition-accepts k es (superposition-verdict .0) (superposition-verdict .1 .0) load)
-
   -- THEOREM: if it holds back at a length, exact demand there, times k + 1, is more than k times the length; and that demand is shown
   pub near-overrun-if-held-back : Q es ≤ H es → values v .verdict ≡ 3 → NearOverrun k es (values v .interval) × (values v .demand ≡ D es (values v .interval))
   near-overrun-if-held-back load =
@@ -162,3 +172,12 @@ module _ (k : ℕ) (x : Input) (v : Verdict) (answer : superpositionOn k x ≡ G
   -- THEOREM: load above one it shows as the exact test does
   pub superposition-shows-load-above-one : H es < Q es → ShowsTheFirst es (values v)
   superposition-shows-load-above-one over = rw (superposition-verdict .2) (superposition-shows-the-first es k (superposition-verdict .0) over)
+
+  -- THEOREM: if it accepts, whatever the load, exact demand exceeds no length at all
+  pub no-overrun-if-accepted : values v .verdict ≡ 0 → (I : ℕ) → D es I ≤ I
+  no-overrun-if-accepted accepted = ⊎-elim
+      (λ over. absurd (omega (arith, superposition-shows-load-above-one over .verdict)))
+      (λ load.
+      let w = superposition-verdict in
+      no-overrun-if-superposition-accepts k es (w .0) (w .1 .0) load (ap (λ u. values u .verdict) (sym (w .2)) ∙ accepted))
+      (lt-or-le (H es) (Q es))
