@@ -1,6 +1,6 @@
 -- What the answer of an analysis of a legal set comes to, way by way. Assumes nothing.
-use Prim.Native.Nat.{ℕ, _≤_, _<_}
-use mathlib.Core.Path.{_≡_, refl}
+use Prim.Native.Nat.{ℕ, _+_, _≤_, _<_}
+use mathlib.Core.Path.{_≡_, refl, _∙_}
 use mathlib.Core.Bool.{Bool, true, false, not, cond, _&&_}
 use mathlib.Core.List.{List}
 use native.Mathlib.Omega.{arith}
@@ -16,13 +16,13 @@ use Rattle.model.specs.declared.answers.Answer.{Answer}
 use Rattle.model.specs.declared.answers.Answer.the-variants.{Refused, Given}
 use Rattle.model.specs.Number.{someBelow}
 use Rattle.model.specs.Elements.{places, mostH, AllLegal}
-use Rattle.model.specs.Demand.{H, Q}
+use Rattle.model.specs.Demand.{F, H, Q}
 use Rattle.model.specs.ExactTest.{overload, Lengths, stop, comparing, byLoad, exactLengths, exact}
 use Rattle.model.specs.Superposition.{superpositionLengths, superposition}
 use Rattle.model.specs.TurnedAway.{turned, unless, firstAbove, checkH, isLarge, isLargeAt, meetsLarge, exactIsLarge, superpositionIsLarge, answered, analysis}
 use Rattle.model.proofs.TurnedAwayLaws.{not-large}
 use Rattle.theory.proofs.ExactTestLaws.{load-above, load-at-most}
-use Rattle.analysis.specs.Comparing.{refusedBy, compared, isLargeWith}
+use Rattle.analysis.specs.Comparing.{refusedBy, compared, lengthsBelow, isLargeWith}
 use Rattle.analysis.proofs.SizeLaws.{load-small}
 use Rattle.analysis.proofs.OverloadLaws.{overload-fits}
 
@@ -74,6 +74,12 @@ module _ (placeOf : ℕ → ℕ) (s : List Element) where
   pub exact-is : the-answer Overrun exactLengths isLargeAt placeOf s ≡ analysis Fine placeOf exactIsLarge exact s
   unfolding exactIsLarge exact
   exact-is = refl
+
+  -- the lengths below a bound that is F + H
+  pub shows-exact :
+      AllLegal s → length s ≤ places → H s ≤ mostH → Q s ≤ H s → (bound : ℕ) → bound ≡ F s + H s →
+      compared s Overrun (lengthsBelow s bound) (isLargeAt s) ≡ analysis Fine placeOf exactIsLarge exact s
+  shows-exact legal few small load bound e = rw e (shows-compared Overrun exactLengths isLargeAt placeOf s legal few small load ∙ exact-is)
 
   pub superposition-is :
       (k : ℕ) → the-answer NotShown (superpositionLengths k) (isLargeWith k) placeOf s ≡ analysis Fine placeOf (superpositionIsLarge k) (superposition k) s

@@ -128,6 +128,7 @@ module _ (t : TaskSet) (k h : ℕ) where
     pub budgets : left + count ≡ budget k (counted t)
     pub few : count ≤ before
     pub line-small : slope * (at - before) ≤ mostH * mostLength
+    pub due-few : due ≤ places * mostCost
     pub due-small : due * h ≤ places * mostCost * mostH
     pub slope-small : slope + more ≤ mostH
     pub top-small : h * at ≤ mostH * mostLength
@@ -272,6 +273,7 @@ module _ (t : TaskSet) (k h : ℕ) where
           line-small =
               mul-le-mul {n₁ = slope} {m₁ = at - before} {n₂ = mostH} {m₂ = mostLength}
               (omega (arith, w .slopes, slope-most before)) (omega (arith, high));
+          due-few = due-most;
           due-small = mul-le-mul {n₁ = r .cost} {m₁ = h} {n₂ = places * mostCost} {m₂ = mostH} due-most (w .fit .small);
           slope-small = omega (arith, slope-is, slope-most at);
           top-small = mul-le-mul {n₁ = h} {m₁ = at} {n₂ = mostH} {m₂ = mostLength} (w .fit .small) high;

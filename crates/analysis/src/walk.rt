@@ -103,25 +103,25 @@ pub(crate) struct Moved {
     pub(crate) rise: u64,
 }
 
-// Moves on every place that has this length for its next.
+// Moves on every one of the first n places that has this length for its next.
 fn move_on(
     next: &mut [u64; PLACES],
     step: &[u64; PLACES],
     cost: &[u64; PLACES],
     last: &[u64; PLACES],
     rise: &[u64; PLACES],
-    count: usize,
+    n: usize,
     at: u64,
 ) -> Moved
-    requires { ⌜ Movable (now next) (now step) (now cost) (now rise) count at ⌝ }
+    requires { ⌜ Movable (now next) (now step) (now cost) (now rise) n at ⌝ }
     ensures { λ r. ⌜
-        MovedOn (now (next .entry)) (now (next .exit)) (now (step .entry)) (now (cost .entry)) (now (last .entry)) (now (rise .entry)) count at r
+        MovedOn (now (next .entry)) (now (next .exit)) (now (step .entry)) (now (cost .entry)) (now (last .entry)) (now (rise .entry)) n at r
         ⌝ }
 {
     let mut due: u64 = 0;
     let mut slope: u64 = 0;
     let mut i: usize = 0;
-    while i < count {
+    while i < n {
         if next[i] == at {
             due = due + cost[i];
             if at < last[i] {

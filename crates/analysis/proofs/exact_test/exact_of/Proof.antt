@@ -13,7 +13,7 @@ use Rattle.analysis.specs.Dates.{mostBound}
 use Rattle.analysis.proofs.PlaceLaws.{LegalPlaces, legal-places}
 use Rattle.analysis.proofs.SizeLaws.{first-small}
 use Rattle.analysis.proofs.LoadedLaws.{load-tells}
-use Rattle.analysis.proofs.AnswerLaws.{refused-by-8, shows-overload, shows-compared, exact-is}
+use Rattle.analysis.proofs.AnswerLaws.{refused-by-8, shows-overload, shows-exact, exact-is}
 use Rattle.analysis.proofs.exact_test.exact_of.Statement.{statement}
 use Rattle.analysis.proofs.exact_test.exact_of.Tie as tie
 
@@ -47,7 +47,7 @@ add-compare-lengths : tie.Need-add-compare-lengths
 add-compare-lengths c = omega (arith, bound c)
 
 compare-lengths-requires : tie.Need-compare-lengths-requires
-compare-lengths-requires c κs = (c .before .before .before .before .pre, bound c)
+compare-lengths-requires c κs = (c .before .before .before .before .pre, omega (arith, bound c))
 
 returns : tie.Need-returns
 returns c =
@@ -64,8 +64,8 @@ returns-3 : tie.Need-returns-3
 returns-3 c =
     let p = places-of (c .before .before .before .before .before) in
     let k = tells (c .before) in
-    rw (c .compare-lengths .ensures, k .0, k .1)
-    (shows-compared Overrun exactLengths isLargeAt (λ place. place) _ (p .all) (p .short) (k .2) (k .3) ∙ exact-is (λ place. place) _)
+    rw (c .compare-lengths .ensures)
+    (shows-exact (λ place. place) _ (p .all) (p .short) (k .2) (k .3) _ (omega (arith, k .0, k .1)))
 
 pub exact-of-spec : {M : Type 1} → statement M
 exact-of-spec =

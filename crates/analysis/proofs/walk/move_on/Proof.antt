@@ -7,10 +7,10 @@ use Rattle.analysis.proofs.walk.move_on.Statement.{statement}
 use Rattle.analysis.proofs.walk.move_on.Tie as tie
 
 abbrev Inv-loop : tie.InvT-loop
-Inv-loop next₀ step cost last rise count at due₀ slope₀ i₀ next due slope i = Moving next₀ step cost last rise count at next i due slope
+Inv-loop next₀ step cost last rise n at due₀ slope₀ i₀ next due slope i = Moving next₀ step cost last rise n at next i due slope
 
 abbrev μ-loop : tie.MeasureT-loop
-μ-loop next₀ step cost last rise count at due₀ slope₀ i₀ next due slope i = count - i
+μ-loop next₀ step cost last rise n at due₀ slope₀ i₀ next due slope i = n - i
 
 loop-holds : tie.Need-loop-holds Inv-loop μ-loop
 loop-holds c = start _ _ _ _ _ _ _ (c .pre)

@@ -94,7 +94,7 @@ returns-2 c =
     ∙ too-large _ _ _ (turned (c .before .before .before .before)) (sym (c .before .enum-told .given .1) ∙ c .before .before .before .add .ensures)
 
 add-count : tie.Need-add-count Inv-loop μ-loop
-add-count c = let w = turned (c .before .before .before .before) in omega (arith, w .few, w .later, w .low)
+add-count c = let w = turned (c .before .before .before .before) in omega (arith, w .few, w .later, w .low, w .due-few)
 
 mul-if2 : tie.Need-mul-if2 Inv-loop μ-loop
 mul-if2 c = omega (arith, turned (c .before .before .before .before) .top-small)
