@@ -5,8 +5,8 @@ use mathlib.Core.Bool.{Bool, true, false, not, cond}
 use mathlib.Core.List.{List}
 use mathlib.Core.Logic.{⊎-elim}
 use native.Mathlib.Omega.{arith}
-use lib.Dec.{leb, ltb}
-use lib.ListN.{length, take, drop, length-drop}
+use lib.Dec.{leb}
+use lib.ListN.{length, drop, length-drop}
 use borrow.Author.Tests.{ne-eqb}
 use Rattle.model.specs.declared.elements.Element.{Element}
 use Rattle.model.specs.declared.answers.Refusal.{Refusal}
@@ -18,7 +18,7 @@ use Rattle.model.specs.Elements.{places, mostH}
 use Rattle.model.specs.Demand.{H}
 use Rattle.model.specs.TurnedAway.{turned, unless, _then_, firstAbove, checkH, answered, analysis}
 use Rattle.model.proofs.Cases.{test}
-use Rattle.model.proofs.NumberLaws.{least-is}
+use Rattle.model.proofs.NumberLaws.{least-most}
 use Rattle.wire.specs.Format.{recordSize}
 use Rattle.wire.specs.Reading.{noBytes, restOf, checkRecords, elementsIn}
 use Rattle.wire.proofs.ReadingLaws.{rest-element, records-rest, elements-end, elements-next}
@@ -94,9 +94,9 @@ module _ (a : Answer) (r : Refusal) (eq : a ≡ Refused r) where
   pub eight-placed : (n : ℕ) → Placed n a → r .number ≡ 8 → r .place ≤ n
   eight-placed n p = rw eq at p
 
-first-within : (s : List Element) → firstAbove s ≤ length s
+pub first-within : (s : List Element) → firstAbove s ≤ length s
 unfolding firstAbove
-first-within s = ⊎-elim (λ w. omega (arith, w .0)) (λ w. omega (arith, w .0)) (least-is (λ i. ltb mostH (H (take (suc i) s))) (length s))
+first-within s = least-most _ (length s)
 
 module _ (large : List Element → Bool) (verdict : List Element → Verdict) (s : List Element) where
   pub answer-placed : Placed (length s) (analysis Fine (λ place. place) large verdict s)

@@ -111,6 +111,9 @@ module _ (t : ℕ → Bool) where
   least-is zero = inr (refl, λ j h. absurd (omega arith))
   least-is (suc n) = least-step n (least t n) (least-is n)
 
+  pub least-most : (n : ℕ) → least t n ≤ n
+  least-most n = ⊎-elim (λ r. omega (arith, r .0)) (λ r. omega (arith, r .0)) (least-is n)
+
   -- where n passes, there is a first, and it is found
   pub least-first : (n : ℕ) → t n ≡ true → IsFirst (least t n) × (least t n ≤ n)
   least-first n p = go (least-is n)

@@ -1,0 +1,5 @@
+pub mod TextLaws
+pub mod PrintedLaws
+pub mod Outcomes
+pub mod Printout
+pub mod FirstBytesDecide
