@@ -1,0 +1,78 @@
+-- `second::exact_test::compared` is safe and ends. Assumes nothing.
+use Prim.Native.Nat.{_<_, _-_}
+use native.Mathlib.Omega.{arith}
+use Rattle.second.proofs.exact_test.compared.Statement.{statement}
+use Rattle.second.proofs.exact_test.compared.Tie as tie
+
+abbrev Inv-loop : tie.InvT-loop
+Inv-loop first period cost last count lengths₀ length₀ lengths length = lengths < length
+
+abbrev μ-loop : tie.MeasureT-loop
+μ-loop first period cost last count lengths₀ length₀ lengths length = 18446744073709551616 - length
+
+next-requires : tie.Need-next-requires Inv-loop μ-loop
+next-requires c κs = omega arith
+
+loop-holds : tie.Need-loop-holds Inv-loop μ-loop
+loop-holds c = omega arith
+
+add-lengths : tie.Need-add-lengths Inv-loop μ-loop
+add-lengths c = omega arith
+
+demand-requires : tie.Need-demand-requires Inv-loop μ-loop
+demand-requires c κs = omega arith
+
+enum-known-wanted : tie.Need-enum-known-wanted Inv-loop μ-loop
+enum-known-wanted c = omega arith
+
+enum-told : tie.Need-enum-told Inv-loop μ-loop
+enum-told c = omega arith
+
+refused-requires : tie.Need-refused-requires Inv-loop μ-loop
+refused-requires c κs = tt
+
+returns : tie.Need-returns Inv-loop μ-loop
+returns c = tt
+
+answered-requires : tie.Need-answered-requires Inv-loop μ-loop
+answered-requires c κs = tt
+
+returns-2 : tie.Need-returns-2 Inv-loop μ-loop
+returns-2 c = tt
+
+next-requires-2 : tie.Need-next-requires-2 Inv-loop μ-loop
+next-requires-2 c κs = omega arith
+
+loop-less : tie.Need-loop-less Inv-loop μ-loop
+loop-less c = omega arith
+
+loop-again : tie.Need-loop-again Inv-loop μ-loop
+loop-again c = omega arith
+
+answered-requires-2 : tie.Need-answered-requires-2 Inv-loop μ-loop
+answered-requires-2 c κs = tt
+
+returns-3 : tie.Need-returns-3 Inv-loop μ-loop
+returns-3 c = tt
+
+pub compared-spec : {M : Type 1} → statement M
+compared-spec =
+    tie.close
+    (tie.spec
+    Inv-loop
+    μ-loop
+    next-requires
+    loop-holds
+    add-lengths
+    demand-requires
+    enum-known-wanted
+    enum-told
+    refused-requires
+    returns
+    answered-requires
+    returns-2
+    next-requires-2
+    loop-less
+    loop-again
+    answered-requires-2
+    returns-3)

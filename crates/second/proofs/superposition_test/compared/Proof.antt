@@ -1,0 +1,118 @@
+-- `second::superposition_test::compared` is safe and ends. Assumes nothing.
+use Prim.Native.Nat.{_<_, _-_}
+use native.Mathlib.Omega.{arith}
+use Rattle.second.proofs.superposition_test.compared.Statement.{statement}
+use Rattle.second.proofs.superposition_test.compared.Tie as tie
+
+abbrev Inv-loop : tie.InvT-loop
+Inv-loop first period cost last count k h lengths₀ length₀ lengths length = lengths < length
+
+abbrev μ-loop : tie.MeasureT-loop
+μ-loop first period cost last count k h lengths₀ length₀ lengths length = 18446744073709551616 - length
+
+next-requires : tie.Need-next-requires Inv-loop μ-loop
+next-requires c κs = omega arith
+
+loop-holds : tie.Need-loop-holds Inv-loop μ-loop
+loop-holds c = omega arith
+
+add-lengths : tie.Need-add-lengths Inv-loop μ-loop
+add-lengths c = omega arith
+
+demand-requires : tie.Need-demand-requires Inv-loop μ-loop
+demand-requires c κs = omega arith
+
+enum-known-wanted : tie.Need-enum-known-wanted Inv-loop μ-loop
+enum-known-wanted c = omega arith
+
+enum-told : tie.Need-enum-told Inv-loop μ-loop
+enum-told c = omega arith
+
+refused-requires : tie.Need-refused-requires Inv-loop μ-loop
+refused-requires c κs = tt
+
+returns : tie.Need-returns Inv-loop μ-loop
+returns c = tt
+
+times-requires : tie.Need-times-requires Inv-loop μ-loop
+times-requires c κs = tt
+
+enum-known-allowed : tie.Need-enum-known-allowed Inv-loop μ-loop
+enum-known-allowed c = omega arith
+
+enum-told-2 : tie.Need-enum-told-2 Inv-loop μ-loop
+enum-told-2 c = omega arith
+
+refused-requires-2 : tie.Need-refused-requires-2 Inv-loop μ-loop
+refused-requires-2 c κs = tt
+
+returns-2 : tie.Need-returns-2 Inv-loop μ-loop
+returns-2 c = tt
+
+scaled-requires : tie.Need-scaled-requires Inv-loop μ-loop
+scaled-requires c κs = omega arith
+
+enum-known-approximated : tie.Need-enum-known-approximated Inv-loop μ-loop
+enum-known-approximated c = omega arith
+
+enum-told-3 : tie.Need-enum-told-3 Inv-loop μ-loop
+enum-told-3 c = omega arith
+
+refused-requires-3 : tie.Need-refused-requires-3 Inv-loop μ-loop
+refused-requires-3 c κs = tt
+
+returns-3 : tie.Need-returns-3 Inv-loop μ-loop
+returns-3 c = tt
+
+answered-requires : tie.Need-answered-requires Inv-loop μ-loop
+answered-requires c κs = tt
+
+returns-4 : tie.Need-returns-4 Inv-loop μ-loop
+returns-4 c = tt
+
+next-requires-2 : tie.Need-next-requires-2 Inv-loop μ-loop
+next-requires-2 c κs = omega arith
+
+loop-less : tie.Need-loop-less Inv-loop μ-loop
+loop-less c = omega arith
+
+loop-again : tie.Need-loop-again Inv-loop μ-loop
+loop-again c = omega arith
+
+answered-requires-2 : tie.Need-answered-requires-2 Inv-loop μ-loop
+answered-requires-2 c κs = tt
+
+returns-5 : tie.Need-returns-5 Inv-loop μ-loop
+returns-5 c = tt
+
+pub compared-spec : {M : Type 1} → statement M
+compared-spec =
+    tie.close
+    (tie.spec
+    Inv-loop
+    μ-loop
+    next-requires
+    loop-holds
+    add-lengths
+    demand-requires
+    enum-known-wanted
+    enum-told
+    refused-requires
+    returns
+    times-requires
+    enum-known-allowed
+    enum-told-2
+    refused-requires-2
+    returns-2
+    scaled-requires
+    enum-known-approximated
+    enum-told-3
+    refused-requires-3
+    returns-3
+    answered-requires
+    returns-4
+    next-requires-2
+    loop-less
+    loop-again
+    answered-requires-2
+    returns-5)
