@@ -4,49 +4,21 @@ use crate::answers::answered;
 use crate::answers::refused;
 use crate::checking::set_fault;
 use crate::demands::demand;
-use crate::demands::load;
 use crate::demands::longest;
-use crate::hyperperiods::hyperperiod;
 use crate::lengths::NONE_LEFT;
 use crate::lengths::next;
 use crate::limits::MOST_ELEMENTS;
+use crate::loads::Loaded;
+use crate::loads::load_of_set;
 use crate::reading::read;
-use crate::rows::costs;
-use crate::rows::firsts;
-use crate::rows::periods;
-use crate::whole::LARGEST;
+use crate::rows::rows_of;
 use crate::whole::Whole;
 use crate::whole::capped;
+use crate::whole::less;
 use crate::whole::plus;
 use crate::writing::record_start;
 use model::TaskSet;
 ghost use Prim.Native.Nat.{_<_, _≤_};
-
-// Verdict 2: the first overrun among F, F + H, F + 2 H and so on.
-pub(crate) fn overloaded(
-    first: &[u64; MOST_ELEMENTS],
-    period: &[u64; MOST_ELEMENTS],
-    cost: &[u64; MOST_ELEMENTS],
-    count: usize,
-    h: u64,
-) -> Numbers
-    requires { ⌜ count ≤ 128 ⌝ }
-    requires { ⌜ 0 < h ⌝ }
-{
-    let mut length = longest(first, count);
-    loop {
-        let Whole::Is(wanted) = demand(first, period, cost, count, length) else {
-            return refused(11, 0);
-        };
-        if length < wanted {
-            return answered(2, length, wanted, 0);
-        }
-        if LARGEST - length < h {
-            return refused(11, 0);
-        }
-        length += h;
-    }
-}
 
 // The test lengths in rising order, each up to its element's last.
 fn compared(
@@ -76,24 +48,18 @@ fn compared(
 fn of_legal(set: TaskSet) -> Numbers
     requires { ⌜ set .count ≤ 128 ⌝ }
 {
-    let hyper = hyperperiod(set);
-    if hyper.refusal != 0 {
-        return refused(hyper.refusal, hyper.place);
+    let rows = rows_of(set);
+    let first = rows.first;
+    let period = rows.period;
+    let cost = rows.cost;
+    match load_of_set(set, &first, &period, &cost) {
+        Loaded::Settled(numbers) => numbers,
+        Loaded::AtMostOne(h) => {
+            let end = capped(plus(Whole::Is(longest(&first, set.count)), Whole::Is(h)));
+            let last = [less(end, 1); MOST_ELEMENTS];
+            compared(&first, &period, &cost, &last, set.count)
+        }
     }
-    let h = hyper.value;
-    let count = set.count;
-    let first = firsts(set);
-    let period = periods(set);
-    let cost = costs(set);
-    let Whole::Is(q) = load(&period, &cost, count, h) else {
-        return refused(11, 0);
-    };
-    if h < q {
-        return overloaded(&first, &period, &cost, count, h);
-    }
-    let below = capped(plus(Whole::Is(longest(&first, count)), Whole::Is(h - 1)));
-    let last = [below; MOST_ELEMENTS];
-    compared(&first, &period, &cost, &last, count)
 }
 
 pub fn exact(set: TaskSet) -> Numbers {

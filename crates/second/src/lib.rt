@@ -7,6 +7,7 @@ mod exact_test;
 mod hyperperiods;
 mod lengths;
 mod limits;
+mod loads;
 mod reading;
 mod rows;
 mod superposition_test;

@@ -5,6 +5,12 @@ use model::Period;
 use model::TaskSet;
 ghost use Prim.Native.Nat.{_≤_};
 
+pub(crate) struct Rows {
+    pub(crate) first: [u64; MOST_ELEMENTS],
+    pub(crate) period: [u64; MOST_ELEMENTS],
+    pub(crate) cost: [u64; MOST_ELEMENTS],
+}
+
 fn first_of(element: Element) -> u64 {
     element.offset as u64 + element.deadline as u64
 }
@@ -17,45 +23,25 @@ fn period_of(element: Element) -> u64 {
     }
 }
 
-// The first due lengths.
-pub(crate) fn firsts(set: TaskSet) -> [u64; MOST_ELEMENTS]
+// The first due lengths, the periods and the costs.
+pub(crate) fn rows_of(set: TaskSet) -> Rows
     requires { ⌜ set .count ≤ 128 ⌝ }
 {
     let count = set.count;
-    let mut rows = [0u64; MOST_ELEMENTS];
+    let mut first = [0u64; MOST_ELEMENTS];
+    let mut period = [0u64; MOST_ELEMENTS];
+    let mut cost = [0u64; MOST_ELEMENTS];
     let mut i = 0;
     while i < count {
         let element = set.table[i];
-        rows[i] = first_of(element);
+        first[i] = first_of(element);
+        period[i] = period_of(element);
+        cost[i] = element.cost as u64;
         i += 1;
     }
-    rows
-}
-
-pub(crate) fn periods(set: TaskSet) -> [u64; MOST_ELEMENTS]
-    requires { ⌜ set .count ≤ 128 ⌝ }
-{
-    let count = set.count;
-    let mut rows = [0u64; MOST_ELEMENTS];
-    let mut i = 0;
-    while i < count {
-        let element = set.table[i];
-        rows[i] = period_of(element);
-        i += 1;
+    Rows {
+        first,
+        period,
+        cost,
     }
-    rows
-}
-
-pub(crate) fn costs(set: TaskSet) -> [u64; MOST_ELEMENTS]
-    requires { ⌜ set .count ≤ 128 ⌝ }
-{
-    let count = set.count;
-    let mut rows = [0u64; MOST_ELEMENTS];
-    let mut i = 0;
-    while i < count {
-        let element = set.table[i];
-        rows[i] = element.cost as u64;
-        i += 1;
-    }
-    rows
 }

@@ -5,18 +5,15 @@ use crate::answers::refused;
 use crate::checking::set_fault;
 use crate::demands::demand;
 use crate::demands::demand_of;
-use crate::demands::load;
 use crate::exact_test::in_bytes;
-use crate::exact_test::overloaded;
-use crate::hyperperiods::hyperperiod;
 use crate::lengths::NONE_LEFT;
 use crate::lengths::next;
 use crate::limits::MOST_ELEMENTS;
 use crate::limits::MOST_TEST_POINTS;
+use crate::loads::Loaded;
+use crate::loads::load_of_set;
 use crate::reading::read;
-use crate::rows::costs;
-use crate::rows::firsts;
-use crate::rows::periods;
+use crate::rows::rows_of;
 use crate::whole::Whole;
 use crate::whole::capped;
 use crate::whole::plus;
@@ -122,23 +119,17 @@ fn of_legal(set: TaskSet, k: u64) -> Numbers
     requires { ⌜ set .count ≤ 128 ⌝ }
     requires { ⌜ 0 < k ⌝ }
 {
-    let hyper = hyperperiod(set);
-    if hyper.refusal != 0 {
-        return refused(hyper.refusal, hyper.place);
+    let rows = rows_of(set);
+    let first = rows.first;
+    let period = rows.period;
+    let cost = rows.cost;
+    match load_of_set(set, &first, &period, &cost) {
+        Loaded::Settled(numbers) => numbers,
+        Loaded::AtMostOne(h) => {
+            let last = lasts(&first, &period, set.count, k);
+            compared(&first, &period, &cost, &last, set.count, k, h)
+        }
     }
-    let h = hyper.value;
-    let count = set.count;
-    let first = firsts(set);
-    let period = periods(set);
-    let cost = costs(set);
-    let Whole::Is(q) = load(&period, &cost, count, h) else {
-        return refused(11, 0);
-    };
-    if h < q {
-        return overloaded(&first, &period, &cost, count, h);
-    }
-    let last = lasts(&first, &period, count, k);
-    compared(&first, &period, &cost, &last, count, k, h)
 }
 
 // k, or 0 where it is out of range.

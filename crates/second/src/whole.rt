@@ -53,6 +53,11 @@ pub(crate) fn capped(a: Whole) -> u64 {
     }
 }
 
+// 0 where b is more than a.
+pub(crate) fn less(a: u64, b: u64) -> u64 {
+    if a < b { 0 } else { a - b }
+}
+
 // 0 where the divisor is 0.
 pub(crate) fn quotient(a: u64, b: u64) -> u64 {
     if b == 0 { 0 } else { a / b }

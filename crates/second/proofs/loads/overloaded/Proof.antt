@@ -1,8 +1,8 @@
--- `second::exact_test::overloaded` is safe and ends. Assumes nothing.
+-- `second::loads::overloaded` is safe and ends. Assumes nothing.
 use Prim.Native.Nat.{_<_, _-_}
 use native.Mathlib.Omega.{arith}
-use Rattle.second.proofs.exact_test.overloaded.Statement.{statement}
-use Rattle.second.proofs.exact_test.overloaded.Tie as tie
+use Rattle.second.proofs.loads.overloaded.Statement.{statement}
+use Rattle.second.proofs.loads.overloaded.Tie as tie
 
 abbrev Inv-loop : tie.InvT-loop
 Inv-loop first period cost count h length₀ length = length < 18446744073709551616
