@@ -24,7 +24,7 @@ use Rattle.wire.specs.Format.{numberAt, kindOf, isKind, bodySize, recordSize, e
 use Rattle.wire.specs.Reading.{checkRecord, noBytes, checkRecords, elementsIn}
 use Rattle.analysis.specs.InBytes.{kindByte, exactOfBytes, superpositionOfBytes}
 use Rattle.analysis.proofs.ByteLaws.{first-within}
-use Rattle.printer.specs.Printed.{printed, printedFor}
+use Rattle.printer.specs.Printed.{printed, deciding, printedFor}
 
 -- A RECORD has no more than 17 bytes
 size-most : (s : List ℕ) → recordSize s ≤ 17
@@ -171,4 +171,4 @@ module _ (n : ℕ) (b : List ℕ) (h : 17 * suc places ≤ n) where
 -- THEOREM: the first 4,096 bytes decide
 pub first-bytes-decide : (input : List ℕ) → printedFor input ≡ printed input
 unfolding printedFor
-first-bytes-decide input = first-records-decide 4096 input (omega arith)
+first-bytes-decide input = first-records-decide deciding input (omega arith)

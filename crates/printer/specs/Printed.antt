@@ -25,5 +25,8 @@ unfoldable pub printed : List ℕ → List ℕ
 printed b = printedOf (exactOfBytes b) (superpositionOfBytes 1 b) (superpositionOfBytes 2 b) (superpositionOfBytes 100 b)
 
 -- "It reads standard input, of which the first 4,096 bytes decide"
+abbrev pub deciding : ℕ
+deciding = 4096
+
 unfoldable pub printedFor : List ℕ → List ℕ
-printedFor input = printed (take 4096 input)
+printedFor input = printed (take deciding input)
