@@ -58,7 +58,7 @@ fn main() {
     }
     let n = io::count(got, &input);
     print(&input[..n]);
-    if n == 4096 {
+    if n == input.len() {
         read_on();
     }
 }
