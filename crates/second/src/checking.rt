@@ -1,11 +1,11 @@
 // Refusals 3 to 7 of a set in memory, and 4 to 7 of one element.
+ghost use mathlib.Core.Path.{_≡_};
+ghost use Prim.Native.Nat.{_≤_};
 use crate::limits::MOST_ELEMENTS;
 use crate::limits::MOST_TICKS;
 use model::Element;
 use model::Period;
 use model::TaskSet;
-ghost use mathlib.Core.Path.{_≡_};
-ghost use Prim.Native.Nat.{_≤_};
 
 // Refusal 0 is none.
 pub(crate) struct Fault {

@@ -1,10 +1,10 @@
 // Demand at one length, the load, and the longest first due length, each summed or sought anew over all elements.
+ghost use Prim.Native.Nat.{_≤_};
 use crate::limits::MOST_ELEMENTS;
 use crate::whole::Whole;
 use crate::whole::plus;
 use crate::whole::quotient;
 use crate::whole::times;
-ghost use Prim.Native.Nat.{_≤_};
 
 // The due dates of an element up to the length.
 fn due(first: u64, period: u64, length: u64) -> Whole {

@@ -1,4 +1,5 @@
 // The exact processor demand test.
+ghost use Prim.Native.Nat.{_<_, _≤_};
 use crate::answers::Numbers;
 use crate::answers::answered;
 use crate::answers::refused;
@@ -18,7 +19,6 @@ use crate::whole::less;
 use crate::whole::plus;
 use crate::writing::record_start;
 use model::TaskSet;
-ghost use Prim.Native.Nat.{_<_, _≤_};
 
 // The test lengths in rising order, each up to its element's last.
 fn compared(

@@ -1,9 +1,9 @@
 // The hyperperiod H, with refusal 8.
+ghost use Prim.Native.Nat.{_<_, _≤_};
 use crate::limits::MOST_H;
 use crate::whole::remainder;
 use model::Period;
 use model::TaskSet;
-ghost use Prim.Native.Nat.{_<_, _≤_};
 
 // Refusal 0 is none, and the value is then H.
 pub(crate) struct Hyper {

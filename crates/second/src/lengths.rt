@@ -1,7 +1,7 @@
 // The next length to compare.
+ghost use Prim.Native.Nat.{_<_, _≤_};
 use crate::limits::MOST_ELEMENTS;
 use crate::whole::remainder;
-ghost use Prim.Native.Nat.{_<_, _≤_};
 
 // Above every length that a test compares: those are below 2 ^ 33, by the limits of the values, of H and of k.
 pub(crate) const NONE_LEFT: u64 = 18_446_744_073_709_551_615;

@@ -1,4 +1,5 @@
 // What the load decides before any lengths are compared.
+ghost use Prim.Native.Nat.{_<_, _≤_};
 use crate::answers::Numbers;
 use crate::answers::answered;
 use crate::answers::refused;
@@ -10,7 +11,6 @@ use crate::limits::MOST_ELEMENTS;
 use crate::whole::LARGEST;
 use crate::whole::Whole;
 use model::TaskSet;
-ghost use Prim.Native.Nat.{_<_, _≤_};
 
 // The answer is there, or lengths are to be compared, with this H.
 pub(crate) enum Loaded {

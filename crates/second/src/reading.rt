@@ -1,4 +1,6 @@
 // Bytes to a set, by index into the bytes.
+ghost use Prim.Native.Nat.{_+_, _<_, _≤_};
+ghost use lib.ListN.{length};
 use crate::answers::Read;
 use crate::answers::fillers;
 use crate::answers::refused_read;
@@ -11,8 +13,6 @@ use crate::limits::SINGLE_BODY;
 use model::Element;
 use model::Period;
 use model::TaskSet;
-ghost use Prim.Native.Nat.{_+_, _<_, _≤_};
-ghost use lib.ListN.{length};
 
 fn wide(byte: u8) -> u32
     ensures { λ r. ⌜ r < 256 ⌝ }

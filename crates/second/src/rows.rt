@@ -1,9 +1,9 @@
 // The elements' numbers, each in an array of its own: a period of 0 is a single event's.
+ghost use Prim.Native.Nat.{_≤_};
 use crate::limits::MOST_ELEMENTS;
 use model::Element;
 use model::Period;
 use model::TaskSet;
-ghost use Prim.Native.Nat.{_≤_};
 
 pub(crate) struct Rows {
     pub(crate) first: [u64; MOST_ELEMENTS],

@@ -1,4 +1,5 @@
 // The approximated superposition test.
+ghost use Prim.Native.Nat.{_<_, _≤_};
 use crate::answers::Numbers;
 use crate::answers::answered;
 use crate::answers::refused;
@@ -20,7 +21,6 @@ use crate::whole::plus;
 use crate::whole::quotient;
 use crate::whole::times;
 use model::TaskSet;
-ghost use Prim.Native.Nat.{_<_, _≤_};
 
 // An element's last test length: m, or a single event's first, as its period is 0.
 fn last_of(first: u64, period: u64, k: u64) -> u64

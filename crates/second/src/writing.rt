@@ -1,4 +1,5 @@
 // A set to bytes, and where its records stand there.
+ghost use Prim.Native.Nat.{_+_, _≤_};
 use crate::answers::Wrote;
 use crate::checking::set_fault;
 use crate::limits::MOST_ELEMENTS;
@@ -7,7 +8,6 @@ use crate::limits::SINGLE;
 use model::Element;
 use model::Period;
 use model::TaskSet;
-ghost use Prim.Native.Nat.{_+_, _≤_};
 
 fn record_size(element: Element) -> usize
     ensures { λ r. ⌜ r ≤ 17 ⌝ }
