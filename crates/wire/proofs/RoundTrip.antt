@@ -30,6 +30,19 @@ write-then-read t out n long h =
       record { counts = counted-long t long (legal .0); elements = set-counted (counted t) },
     )
 
+-- THEOREM: a set that was read is legal, and its bytes are those that were read
+pub read-has-its-bytes :
+    (s : List ℕ) →
+    AllBytes s →
+    readSet s .check ≡ Fine →
+    (isLegalSet (readSet s .set) ≡ true) × (bytesOf (readSet s .set) ≡ s)
+read-has-its-bytes s h c =
+    let k = read-is-records s h c in
+    let es = k .0 in (
+      rw (k .2) (legal-set (setOf es) .1 (k .1 .few, rw (set-counted es) (k .1 .legal))),
+      rw (k .2) (ap recordsOf (set-counted es) ∙ sym (k .1 .bytes)),
+    )
+
 -- THEOREM: what was read is written as exactly those bytes
 pub read-then-write :
     (s out : List ℕ) →
@@ -38,10 +51,7 @@ pub read-then-write :
     length s ≤ length out →
     (writeSet (readSet s .set) (length out) ≡ Bytes (length s)) × (bufferAfter (readSet s .set) out ≡ s ++ drop (length s) out)
 read-then-write s out h c long =
-    let k = read-is-records s h c in
-    let es = k .0 in
-    let bytes : bytesOf (readSet s .set) ≡ s = rw (k .2) (ap recordsOf (set-counted es) ∙ sym (k .1 .bytes)) in
-    let legal : isLegalSet (readSet s .set) ≡ true = rw (k .2) (legal-set (setOf es) .1 (k .1 .few, rw (set-counted es) (k .1 .legal))) in
-    let written = set-is-written (readSet s .set) (length out) (length s) .1 (legal, ap length bytes, long) in
+    let its = read-has-its-bytes s h c in
+    let written = set-is-written (readSet s .set) (length out) (length s) .1 (its .0, ap length (its .1), long) in
     let buffer = bytes-are-written (readSet s .set) out (length s) written in
-    (written, sym (take-append-drop (length s) (bufferAfter (readSet s .set) out)) ∙ ap₂ _++_ (buffer .0 ∙ bytes) (buffer .1))
+    (written, sym (take-append-drop (length s) (bufferAfter (readSet s .set) out)) ∙ ap₂ _++_ (buffer .0 ∙ its .1) (buffer .1))

@@ -1,0 +1,4 @@
+pub mod CallLaws
+pub mod RewriteCopies
+pub mod Outcomes
+pub mod EdgesOfTheCalls

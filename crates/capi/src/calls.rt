@@ -1,0 +1,63 @@
+// The calls from C. A slice is a pointer and a length there, in this order.
+ghost use mathlib.Core.Path.{_≡_};
+ghost use lib.ListN.{length};
+ghost use Rattle.model.specs.Answers.{numbers};
+ghost use Rattle.analysis.specs.InBytes.{exactOfBytes, superpositionOfBytes};
+ghost use Rattle.capi.specs.Calls.{Ends, rewrite, rewriteNumbers, rewritten, outAfter};
+use crate::answers::put_answer;
+use crate::answers::put_written;
+use analysis::exact_of_bytes;
+use analysis::superposition_of_bytes;
+use model::Check;
+use wire::Written;
+use wire::read_set;
+use wire::write_set;
+
+const ANSWER_PLACES: usize = 6;
+
+// What is returned where an answer has fewer: as for a buffer shorter than the written set.
+const TOO_FEW_PLACES: u32 = 10;
+
+#[no_mangle]
+pub extern "C" fn simaurkoi_exact(set: &[u8], answer: &mut [u64]) -> u32
+    ensures { λ r. ⌜ Ends (numbers (exactOfBytes (now (set .entry)))) (now (answer .entry)) r (now (answer .exit)) ⌝ }
+{
+    if answer.len() < ANSWER_PLACES {
+        return TOO_FEW_PLACES;
+    }
+    let found = exact_of_bytes(set);
+    put_answer(answer, found)
+}
+
+#[no_mangle]
+pub extern "C" fn simaurkoi_superposition(set: &[u8], k: u32, answer: &mut [u64]) -> u32
+    ensures { λ r. ⌜ Ends (numbers (superpositionOfBytes k (now (set .entry)))) (now (answer .entry)) r (now (answer .exit)) ⌝ }
+{
+    if answer.len() < ANSWER_PLACES {
+        return TOO_FEW_PLACES;
+    }
+    let found = superposition_of_bytes(set, k);
+    put_answer(answer, found)
+}
+
+fn read_then_write(set: &[u8], out: &mut [u8]) -> Written
+    ensures { λ r. ⌜ (r ≡ rewrite (now (set .entry)) (length (now (out .entry)))) × (now (out .exit) ≡ rewritten (now (set .entry)) (now (out .entry))) ⌝ }
+{
+    let read = read_set(set);
+    let check = read.check;
+    if let Check::TurnedAway(r) = check {
+        return Written::Refused(r);
+    }
+    write_set(read.set, out)
+}
+
+#[no_mangle]
+pub extern "C" fn simaurkoi_rewrite(set: &[u8], out: &mut [u8], answer: &mut [u64]) -> u32
+    ensures { λ r. ⌜ Ends (rewriteNumbers (rewrite (now (set .entry)) (length (now (out .entry))))) (now (answer .entry)) r (now (answer .exit)) × (now (out .exit) ≡ outAfter (now (set .entry)) (now (out .entry)) (now (answer .entry))) ⌝ }
+{
+    if answer.len() < ANSWER_PLACES {
+        return TOO_FEW_PLACES;
+    }
+    let done = read_then_write(set, out);
+    put_written(answer, done)
+}
