@@ -7,7 +7,7 @@ use lib.Seq.{sets-eq}
 use borrow.Author.Tests.{le-leb, lt-leb}
 use Rattle.model.specs.declared.answers.Refusal.{Refusal}
 use Rattle.model.specs.declared.answers.Check.the-variants.{Fine, TurnedAway}
-use Rattle.model.specs.Answers.{Numbers}
+use Rattle.model.specs.declared.answers.Numbers.{Numbers}
 use Rattle.wire.specs.declared.writing.Written.{Written}
 use Rattle.wire.specs.declared.writing.Written.the-variants.{Refused}
 use Rattle.wire.specs.Reading.{readSet}

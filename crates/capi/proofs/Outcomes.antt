@@ -3,7 +3,8 @@ use Prim.Native.Nat.{ℕ}
 use mathlib.Core.Path.{_≡_, sym, _∙_}
 use mathlib.Core.List.{List}
 use lib.ListN.{length}
-use Rattle.model.specs.Answers.{Numbers, numbers}
+use Rattle.model.specs.declared.answers.Numbers.{Numbers}
+use Rattle.model.specs.Answers.{numbers}
 use Rattle.analysis.specs.InBytes.{exactOfBytes, superpositionOfBytes}
 use Rattle.capi.specs.Calls.{Ends, rewrite, rewriteNumbers, outAfter}
 

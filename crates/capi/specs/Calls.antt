@@ -7,7 +7,7 @@ use lib.Dec.{leb}
 use lib.ListN.{length}
 use Rattle.model.specs.declared.answers.Check.{Check}
 use Rattle.model.specs.declared.answers.Check.the-variants.{Fine, TurnedAway}
-use Rattle.model.specs.Answers.{Numbers}
+use Rattle.model.specs.declared.answers.Numbers.{Numbers}
 use Rattle.wire.specs.declared.writing.Written.{Written}
 use Rattle.wire.specs.declared.writing.Written.the-variants.{Bytes, Refused}
 use Rattle.wire.specs.Reading.{readSet}

@@ -4,11 +4,12 @@ ghost use lib.ListN.{length};
 ghost use Rattle.model.specs.Answers.{numbers};
 ghost use Rattle.analysis.specs.InBytes.{exactOfBytes, superpositionOfBytes};
 ghost use Rattle.capi.specs.Calls.{Ends, rewrite, rewriteNumbers, rewritten, outAfter};
-use crate::answers::put_answer;
-use crate::answers::put_written;
+use crate::answers::put_numbers;
+use crate::answers::rewrite_numbers;
 use analysis::exact_of_bytes;
 use analysis::superposition_of_bytes;
 use model::Check;
+use model::answers::numbers_of;
 use wire::Written;
 use wire::read_set;
 use wire::write_set;
@@ -26,7 +27,8 @@ pub extern "C" fn simaurkoi_exact(set: &[u8], answer: &mut [u64]) -> u32
         return TOO_FEW_PLACES;
     }
     let found = exact_of_bytes(set);
-    put_answer(answer, found)
+    let n = numbers_of(found);
+    put_numbers(answer, n)
 }
 
 #[no_mangle]
@@ -37,7 +39,8 @@ pub extern "C" fn simaurkoi_superposition(set: &[u8], k: u32, answer: &mut [u64]
         return TOO_FEW_PLACES;
     }
     let found = superposition_of_bytes(set, k);
-    put_answer(answer, found)
+    let n = numbers_of(found);
+    put_numbers(answer, n)
 }
 
 fn read_then_write(set: &[u8], out: &mut [u8]) -> Written
@@ -59,5 +62,6 @@ pub extern "C" fn simaurkoi_rewrite(set: &[u8], out: &mut [u8], answer: &mut [u6
         return TOO_FEW_PLACES;
     }
     let done = read_then_write(set, out);
-    put_written(answer, done)
+    let n = rewrite_numbers(done);
+    put_numbers(answer, n)
 }

@@ -39,7 +39,7 @@ fn one_refusal(tally: Tally, number: u32) -> Tally {
     t
 }
 
-fn one_verdict(tally: Tally, number: u32) -> Tally {
+fn one_verdict(tally: Tally, number: u64) -> Tally {
     let mut t = tally;
     let i = number as usize;
     if i < 4 {

@@ -16,7 +16,6 @@ use model::Check;
 use model::Element;
 use model::Period;
 use model::TaskSet;
-use model::Verdict;
 use model::elements::PLACES;
 use second::Numbers;
 use second::Wrote;
@@ -38,7 +37,7 @@ pub(crate) fn refusal(number: u32, place: u64) -> Numbers {
     }
 }
 
-pub(crate) fn values(verdict: u32, interval: u64, demand: u64, count: u64) -> Numbers {
+pub(crate) fn values(verdict: u64, interval: u64, demand: u64, count: u64) -> Numbers {
     Numbers {
         refusal: 0,
         place: 0,
@@ -49,27 +48,15 @@ pub(crate) fn values(verdict: u32, interval: u64, demand: u64, count: u64) -> Nu
     }
 }
 
-fn values_of(verdict: Verdict) -> Numbers {
-    match verdict {
-        Verdict::Passes { count } => values(0, 0, 0, count),
-        Verdict::Overrun {
-            interval,
-            demand,
-            count,
-        } => values(1, interval, demand, count),
-        Verdict::LoadAboveOne { interval, demand } => values(2, interval, demand, 0),
-        Verdict::NotShown {
-            interval,
-            demand,
-            count,
-        } => values(3, interval, demand, count),
-    }
-}
-
 fn numbers_of(answer: Answer) -> Numbers {
-    match answer {
-        Answer::Refused(r) => refusal(r.number, r.place as u64),
-        Answer::Given(verdict) => values_of(verdict),
+    let n = model::answers::numbers_of(answer);
+    Numbers {
+        refusal: n.refusal,
+        place: n.place as u64,
+        verdict: n.verdict,
+        interval: n.interval,
+        demand: n.demand,
+        count: n.count,
     }
 }
 

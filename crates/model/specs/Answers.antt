@@ -4,14 +4,10 @@ use Rattle.model.specs.declared.answers.Check.{Check}
 use Rattle.model.specs.declared.answers.Check.the-variants.{Fine, TurnedAway}
 use Rattle.model.specs.declared.answers.Verdict.{Verdict}
 use Rattle.model.specs.declared.answers.Verdict.the-variants.{Passes, Overrun, LoadAboveOne, NotShown}
+use Rattle.model.specs.declared.answers.Values.{Values}
+use Rattle.model.specs.declared.answers.Numbers.{Numbers}
 use Rattle.model.specs.declared.answers.Answer.{Answer}
 use Rattle.model.specs.declared.answers.Answer.the-variants.{Refused, Given}
-
-pub record Values : Type 0 where
-  pub verdict : ℕ
-  pub interval : ℕ
-  pub demand : ℕ
-  pub count : ℕ
 
 abbrev pub values : Verdict → Values
 values (Passes n) = record { verdict = 0; interval = 0; demand = 0; count = n }
@@ -29,14 +25,6 @@ told Fine = record { refusal = 0; place = 0 }
 told (TurnedAway r) = record { refusal = r .number; place = r .place }
 
 -- a refusal's number and place with zeros after them, or a verdict's values with zeros before them
-pub record Numbers : Type 0 where
-  pub refusal : ℕ
-  pub place : ℕ
-  pub verdict : ℕ
-  pub interval : ℕ
-  pub demand : ℕ
-  pub count : ℕ
-
 abbrev pub refused : ℕ → ℕ → Numbers
 refused number at = record { refusal = number; place = at; verdict = 0; interval = 0; demand = 0; count = 0 }
 

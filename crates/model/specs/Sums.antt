@@ -8,7 +8,8 @@ use Rattle.model.specs.declared.elements.Element.{Element}
 use Rattle.model.specs.declared.answers.Check.the-variants.{Fine}
 use Rattle.model.specs.Elements.{mostK, setOf}
 use Rattle.model.specs.Demand.{H, D}
-use Rattle.model.specs.Answers.{Numbers, refused, given, numbers}
+use Rattle.model.specs.declared.answers.Numbers.{Numbers}
+use Rattle.model.specs.Answers.{refused, given, numbers}
 use Rattle.model.specs.TurnedAway.{_then_, checkSet, checkH, exactAnswer, superpositionAnswer}
 
 abbrev pub every : ℕ → ℕ → ℕ → ℕ → Element

@@ -1,4 +1,6 @@
-// The answer of an analysis. specs/Answers.antt gives document 01's number and values for each case.
+// The answer of an analysis, and document 01's numbers for each case. specs/Answers.antt defines them.
+ghost use mathlib.Core.Path.{_≡_};
+ghost use Rattle.model.specs.Answers.{given, refused, values, numbers};
 
 // A row of document 01's table of what is turned away, with its place.
 pub struct Refusal {
@@ -35,4 +37,89 @@ pub enum Verdict {
 pub enum Answer {
     Refused(Refusal),
     Given(Verdict),
+}
+
+pub struct Values {
+    pub verdict: u64,
+    pub interval: u64,
+    pub demand: u64,
+    pub count: u64,
+}
+
+// A refusal's number and place with zeros after them, or a verdict's values with zeros before them.
+pub struct Numbers {
+    pub refusal: u32,
+    pub place: usize,
+    pub verdict: u64,
+    pub interval: u64,
+    pub demand: u64,
+    pub count: u64,
+}
+
+fn four(verdict: u64, interval: u64, demand: u64, count: u64) -> Values
+    ensures { λ r. ⌜ r ≡ record { verdict = verdict; interval = interval; demand = demand; count = count } ⌝ }
+{
+    Values {
+        verdict,
+        interval,
+        demand,
+        count,
+    }
+}
+
+pub fn values_of(verdict: Verdict) -> Values
+    ensures { λ r. ⌜ r ≡ values verdict ⌝ }
+{
+    match verdict {
+        Verdict::Passes { count } => four(0, 0, 0, count),
+        Verdict::Overrun {
+            interval,
+            demand,
+            count,
+        } => four(1, interval, demand, count),
+        Verdict::LoadAboveOne { interval, demand } => four(2, interval, demand, 0),
+        Verdict::NotShown {
+            interval,
+            demand,
+            count,
+        } => four(3, interval, demand, count),
+    }
+}
+
+fn given_numbers(v: Values) -> Numbers
+    ensures { λ r. ⌜ r ≡ given v ⌝ }
+{
+    Numbers {
+        refusal: 0,
+        place: 0,
+        verdict: v.verdict,
+        interval: v.interval,
+        demand: v.demand,
+        count: v.count,
+    }
+}
+
+pub fn refused_numbers(r: Refusal) -> Numbers
+    ensures { λ n. ⌜ n ≡ refused (r .number) (r .place) ⌝ }
+{
+    Numbers {
+        refusal: r.number,
+        place: r.place,
+        verdict: 0,
+        interval: 0,
+        demand: 0,
+        count: 0,
+    }
+}
+
+pub fn numbers_of(answer: Answer) -> Numbers
+    ensures { λ r. ⌜ r ≡ numbers answer ⌝ }
+{
+    match answer {
+        Answer::Refused(r) => refused_numbers(r),
+        Answer::Given(v) => {
+            let given = values_of(v);
+            given_numbers(given)
+        }
+    }
 }

@@ -5,7 +5,9 @@ pub mod elements;
 
 pub use answers::Answer;
 pub use answers::Check;
+pub use answers::Numbers;
 pub use answers::Refusal;
+pub use answers::Values;
 pub use answers::Verdict;
 pub use elements::Element;
 pub use elements::Period;

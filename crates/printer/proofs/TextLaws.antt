@@ -14,7 +14,8 @@ use borrow.Author.Tests.{lt-ltb, le-ltb}
 use Rattle.io.specs.Digits.{digits, Fewest}
 use Rattle.model.specs.declared.answers.Refusal.{Refusal}
 use Rattle.model.specs.declared.answers.Verdict.{Verdict}
-use Rattle.model.specs.Answers.{Values, values}
+use Rattle.model.specs.declared.answers.Values.{Values}
+use Rattle.model.specs.Answers.{values}
 use Rattle.model.specs.Number.{least}
 use Rattle.model.proofs.Cases.{lt-or-le}
 use Rattle.model.proofs.NumberLaws.{IsFirst, least-most, least-at}
@@ -140,12 +141,12 @@ module _ (name : List ℕ) where
       (simp length-append (omega (arith, field-long (v .verdict), field-long (v .interval), field-long (v .demand), field-long (v .count))))
 
   pub puts-line :
-      {v w : Verdict} {l m n : List ℕ} {at b c : ℕ} →
-      v ≡ w →
+      {v w : Values} {l m n : List ℕ} {at b c : ℕ} →
+      w ≡ v →
       Puts name l at m b →
-      (let x = values w in Puts (field (x .verdict) ++ field (x .interval) ++ field (x .demand) ++ field (x .count) ++ newline) m b n c) →
-      Puts (line name (values v)) l at n c
-  puts-line {v} {w} h p q = rw (h, ← line-is (values w)) (puts-then p q)
+      Puts (field (w .verdict) ++ field (w .interval) ++ field (w .demand) ++ field (w .count) ++ newline) m b n c →
+      Puts (line name v) l at n c
+  puts-line {v} {w} h p q = rw (← h, ← line-is w) (puts-then p q)
 
   pub line-room :
       (v : Values) {l m : List ℕ} {at b : ℕ} →

@@ -4,7 +4,8 @@ use mathlib.Core.List.{List, _++_}
 use lib.ListN.{take}
 use Rattle.model.specs.declared.answers.Answer.{Answer}
 use Rattle.model.specs.declared.answers.Answer.the-variants.{Refused, Given}
-use Rattle.model.specs.Answers.{Values, values}
+use Rattle.model.specs.declared.answers.Values.{Values}
+use Rattle.model.specs.Answers.{values}
 use Rattle.analysis.specs.InBytes.{exactOfBytes, superpositionOfBytes}
 use Rattle.printer.specs.Text.{exactName, kName, line, refusedLine}
 

@@ -4,7 +4,7 @@ use mathlib.Core.List.{List, [], _∷_, _++_}
 use lib.Dec.{ltb}
 use Rattle.io.specs.Digits.{digits}
 use Rattle.model.specs.declared.answers.Refusal.{Refusal}
-use Rattle.model.specs.Answers.{Values}
+use Rattle.model.specs.declared.answers.Values.{Values}
 use Rattle.model.specs.Number.{least}
 
 -- a number in decimal, of the fewest digits: 20 are enough for 64 bits

@@ -8,6 +8,7 @@ ghost use Rattle.printer.specs.Putting.{Puts};
 use io::decimal;
 use model::Refusal;
 use model::Verdict;
+use model::answers::values_of;
 
 fn put(out: &mut [u8], at: usize, text: &[u8]) -> usize
     requires { ⌜ at + length (now text) ≤ length (now out) ⌝ }
@@ -60,20 +61,8 @@ pub(crate) fn put_line(out: &mut [u8], at: usize, name: &[u8], verdict: Verdict)
     ensures { λ r. ⌜ Puts (line (now (name .entry)) (values verdict)) (now (out .entry)) at (now (out .exit)) r ⌝ }
 {
     let next = put(out, at, name);
-    match verdict {
-        Verdict::Passes { count } => put_values(out, next, 0, 0, 0, count),
-        Verdict::Overrun {
-            interval,
-            demand,
-            count,
-        } => put_values(out, next, 1, interval, demand, count),
-        Verdict::LoadAboveOne { interval, demand } => put_values(out, next, 2, interval, demand, 0),
-        Verdict::NotShown {
-            interval,
-            demand,
-            count,
-        } => put_values(out, next, 3, interval, demand, count),
-    }
+    let v = values_of(verdict);
+    put_values(out, next, v.verdict, v.interval, v.demand, v.count)
 }
 
 pub(crate) fn put_refused(out: &mut [u8], r: Refusal) -> usize

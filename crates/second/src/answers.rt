@@ -8,7 +8,7 @@ use model::TaskSet;
 pub struct Numbers {
     pub refusal: u32,
     pub place: u64,
-    pub verdict: u32,
+    pub verdict: u64,
     pub interval: u64,
     pub demand: u64,
     pub count: u64,
@@ -38,7 +38,7 @@ pub(crate) fn refused(refusal: u32, place: u64) -> Numbers {
     }
 }
 
-pub(crate) fn answered(verdict: u32, interval: u64, demand: u64, count: u64) -> Numbers {
+pub(crate) fn answered(verdict: u64, interval: u64, demand: u64, count: u64) -> Numbers {
     Numbers {
         refusal: 0,
         place: 0,

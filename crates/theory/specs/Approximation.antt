@@ -9,7 +9,7 @@ use Rattle.model.specs.declared.elements.Element.{Element}
 use Rattle.model.specs.Number.{howMany}
 use Rattle.model.specs.Over.{sumOver}
 use Rattle.model.specs.Demand.{H, D}
-use Rattle.model.specs.Answers.{Values}
+use Rattle.model.specs.declared.answers.Values.{Values}
 use Rattle.model.specs.Superposition.{HD', isVisited}
 
 -- "k for each periodic element and one for each single event"

@@ -5,7 +5,7 @@ use mathlib.Core.List.{List}
 use Rattle.model.specs.declared.elements.Element.{Element}
 use Rattle.model.specs.Number.{howMany}
 use Rattle.model.specs.Demand.{F, H, D, isTest}
-use Rattle.model.specs.Answers.{Values}
+use Rattle.model.specs.declared.answers.Values.{Values}
 
 -- some length, at least 1 and of any size, has more demand than length
 abbrev pub Overloaded : List Element → Type 0
