@@ -4,8 +4,9 @@ ghost use mathlib.Core.Path.{_≡_};
 ghost use lib.ListN.{length};
 ghost use Rattle.wire.specs.Writing.{over};
 ghost use Rattle.capi.specs.Calls.{six, rewriteNumbers};
+use model::Answer;
 use model::Numbers;
-use model::answers::refused_numbers;
+use model::answers::numbers_of;
 use wire::Written;
 
 // Returns the refusal's number.
@@ -26,7 +27,7 @@ pub(crate) fn rewrite_numbers(done: Written) -> Numbers
     ensures { λ r. ⌜ r ≡ rewriteNumbers done ⌝ }
 {
     match done {
-        Written::Refused(r) => refused_numbers(r),
+        Written::Refused(r) => numbers_of(Answer::Refused(r)),
         Written::Bytes(n) => Numbers {
             refusal: 0,
             place: 0,

@@ -7,15 +7,15 @@ use Rattle.capi.proofs.answers.rewrite_numbers.Tie as tie
 enum-known-done : tie.Need-enum-known-done
 enum-known-done c = search needs
 
-refused-numbers-requires : tie.Need-refused-numbers-requires
-refused-numbers-requires c κs = search needs
+numbers-of-requires : tie.Need-numbers-of-requires
+numbers-of-requires c κs = search needs
 
 enum-known-done-2 : tie.Need-enum-known-done-2
 enum-known-done-2 c = search needs
 
 returns : tie.Need-returns
 unfolding rewriteNumbers
-returns c = rw (c .before .before .done .given .1) (c .refused-numbers .ensures)
+returns c = rw (c .before .before .done .given .1) (c .numbers-of .ensures)
 
 returns-2 : tie.Need-returns-2
 unfolding rewriteNumbers
@@ -23,5 +23,4 @@ returns-2 c = rw (c .before .done2 .given .1)
 
 pub rewrite-numbers-spec : {M : Type 1} → statement M
 rewrite-numbers-spec =
-    tie.close
-    (tie.spec enum-known-done refused-numbers-requires enum-known-done-2 returns returns-2)
+    tie.close (tie.spec enum-known-done numbers-of-requires enum-known-done-2 returns returns-2)

@@ -6,32 +6,18 @@ use Rattle.model.proofs.answers.numbers_of.Tie as tie
 enum-known-answer : tie.Need-enum-known-answer
 enum-known-answer c = search needs
 
-refused-numbers-requires : tie.Need-refused-numbers-requires
-refused-numbers-requires c κs = search needs
-
 enum-known-answer-2 : tie.Need-enum-known-answer-2
 enum-known-answer-2 c = search needs
 
 values-of-requires : tie.Need-values-of-requires
 values-of-requires c κs = search needs
 
-given-numbers-requires : tie.Need-given-numbers-requires
-given-numbers-requires c κs = search needs
-
 returns : tie.Need-returns
-returns c = rw (c .before .before .answer .given .1) (c .refused-numbers .ensures)
+returns c = rw (c .before .answer .given .1)
 
 returns-2 : tie.Need-returns-2
-returns-2 c = rw (c .before .before .before .answer2 .given .1, ← c .before .values-of .ensures) (c .given-numbers .ensures)
+returns-2 c = rw (c .before .before .answer2 .given .1, ← c .values-of .ensures)
 
 pub numbers-of-spec : {M : Type 1} → statement M
 numbers-of-spec =
-    tie.close
-    (tie.spec
-    enum-known-answer
-    refused-numbers-requires
-    enum-known-answer-2
-    values-of-requires
-    given-numbers-requires
-    returns
-    returns-2)
+    tie.close (tie.spec enum-known-answer enum-known-answer-2 values-of-requires returns returns-2)
