@@ -131,7 +131,6 @@ pub(crate) fn sweep(
         marks[k] = 0;
         while w != 0 {
             let j = k * 64 + (u64::trailing_zeros(w) as usize);
-            w = w & (w - 1);
             let Sum::Fits(sum) = add(d, due[j]) else {
                 return Swept::TooLarge;
             };
@@ -146,6 +145,7 @@ pub(crate) fn sweep(
                     count: c,
                 });
             }
+            w = w & (w - 1);
         }
     }
     Swept::Clean {

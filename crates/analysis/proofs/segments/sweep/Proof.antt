@@ -58,9 +58,6 @@ cast-j c = omega (arith, trailing-le 64 (c .before .loop2 .w))
 add-j : tie.Need-add-j Inv-loop2 μ-loop2 Inv-loop μ-loop
 add-j c = omega (arith, entry-inside (c .before .loop2 .inv) (c .loop2-test .taken))
 
-sub-w : tie.Need-sub-w Inv-loop2 μ-loop2 Inv-loop μ-loop
-sub-w c = search needs
-
 mul-add : tie.Need-mul-add Inv-loop2 μ-loop2 Inv-loop μ-loop
 mul-add c = omega (arith, entry-inside (c .before .loop2 .inv) (c .loop2-test .taken))
 
@@ -100,6 +97,9 @@ returns-2 c =
     let sum = sym (c .before .before .sum .given .1) ∙ c .before .before .before .before .add .ensures in
     (found-late (t .before .loop2 .inv) (t .loop2-test .taken) sum (c .if1 .taken) ∙ sym (t .before .before .before .before .loop .inv .run .same), tt)
 
+sub-w : tie.Need-sub-w Inv-loop2 μ-loop2 Inv-loop μ-loop
+sub-w c = search needs
+
 loop2-less : tie.Need-loop2-less Inv-loop2 μ-loop2 Inv-loop μ-loop
 loop2-less c = let t = c .before .before .before .before .before .before in fewer-marks (t .before .loop2 .inv) (t .loop2-test .taken)
 
@@ -133,7 +133,6 @@ sweep-spec =
     mul-j
     cast-j
     add-j
-    sub-w
     mul-add
     element-copy-out-add
     add-requires
@@ -145,6 +144,7 @@ sweep-spec =
     add-c
     add-at
     returns-2
+    sub-w
     loop2-less
     loop2-again
     returns-3)
