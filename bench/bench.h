@@ -35,6 +35,16 @@ struct dates {
     uint64_t next[PLACES], step[PLACES], cost[PLACES];
 };
 
+/* The least of n next lengths. */
+static inline uint64_t least(const uint64_t *next, size_t n)
+{
+    uint64_t best = LARGEST;
+    for (size_t i = 0; i < n; i++)
+        if (next[i] < best)
+            best = next[i];
+    return best;
+}
+
 /* set.c: a refusal or 0. */
 uint32_t read_set(const uint8_t *bytes, size_t length, struct task_set *set, size_t *place);
 uint32_t write_set(const struct task_set *set, uint8_t *out, size_t room, size_t *written);
@@ -44,6 +54,10 @@ uint64_t first_of(const struct element *e);
 uint64_t demand_at(const struct task_set *set, uint64_t length);
 void lay_dates(const struct task_set *set, struct dates *dates);
 int is_for_test(const uint8_t *bytes, size_t length, struct task_set *set, struct load *load, uint64_t *answer);
+
+/* The exact test of bytes, with this way of comparing the lengths below a bound. */
+typedef uint32_t comparison(const struct task_set *set, uint64_t bound, uint64_t *answer);
+uint32_t exact_by(comparison *compare, const uint8_t *bytes, size_t length, uint64_t *answer, size_t places);
 
 /* answer.c: the six numbers; each returns the refusal. */
 uint32_t put_refusal(uint64_t *answer, uint32_t refusal, size_t place);

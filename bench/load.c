@@ -104,3 +104,14 @@ int is_for_test(const uint8_t *bytes, size_t length, struct task_set *set, struc
     }
     return 1;
 }
+
+uint32_t exact_by(comparison *compare, const uint8_t *bytes, size_t length, uint64_t *answer, size_t places)
+{
+    struct task_set set;
+    struct load load;
+    if (places < SIMAURKOI_PLACES)
+        return 10;
+    if (!is_for_test(bytes, length, &set, &load, answer))
+        return (uint32_t)answer[0];
+    return compare(&set, load.first + load.hyperperiod, answer);
+}

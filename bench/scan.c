@@ -1,15 +1,6 @@
 /* The exact test by a scan of the places, as it is usually written: a next length for each, and the least of them compared at each step. */
 #include "bench.h"
 
-static uint64_t least(const uint64_t *next, size_t n)
-{
-    uint64_t best = LARGEST;
-    for (size_t i = 0; i < n; i++)
-        if (next[i] < best)
-            best = next[i];
-    return best;
-}
-
 /* Moves on every place that has this length for its next; returns the cost due there. */
 static uint64_t move_on(struct dates *dates, size_t n, uint64_t at)
 {
@@ -43,11 +34,5 @@ static uint32_t compare_lengths(const struct task_set *set, uint64_t bound, uint
 
 uint32_t c_scan(const uint8_t *bytes, size_t length, uint64_t *answer, size_t places)
 {
-    struct task_set set;
-    struct load load;
-    if (places < SIMAURKOI_PLACES)
-        return 10;
-    if (!is_for_test(bytes, length, &set, &load, answer))
-        return (uint32_t)answer[0];
-    return compare_lengths(&set, load.first + load.hyperperiod, answer);
+    return exact_by(compare_lengths, bytes, length, answer, places);
 }

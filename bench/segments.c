@@ -94,11 +94,5 @@ static uint32_t compare_lengths(const struct task_set *set, uint64_t bound, uint
 
 uint32_t c_segments(const uint8_t *bytes, size_t length, uint64_t *answer, size_t places)
 {
-    struct task_set set;
-    struct load load;
-    if (places < SIMAURKOI_PLACES)
-        return 10;
-    if (!is_for_test(bytes, length, &set, &load, answer))
-        return (uint32_t)answer[0];
-    return compare_lengths(&set, load.first + load.hyperperiod, answer);
+    return exact_by(compare_lengths, bytes, length, answer, places);
 }

@@ -19,15 +19,6 @@ static void lay_limits(const struct task_set *set, uint32_t k, uint64_t h, struc
     }
 }
 
-static uint64_t least(const uint64_t *next, size_t n)
-{
-    uint64_t best = LARGEST;
-    for (size_t i = 0; i < n; i++)
-        if (next[i] < best)
-            best = next[i];
-    return best;
-}
-
 /* Moves on every place that has this length for its next; returns the cost due there, and adds to the slope. */
 static uint64_t move_on(struct dates *dates, const struct limits *limits, size_t n, uint64_t at, uint64_t *slope)
 {
