@@ -3,8 +3,8 @@
 
    Three functions. They stand in target/staticlib/libcapi.a, which `rt staticlib capi` writes, for
    x86-64 with the System V calling convention. The archive needs memcpy and memset and nothing else.
-   The functions are proved to do what this page says on every input, as long as the caller keeps to
-   "What the caller owes".
+   What they return, and what they leave in all that they are lent, is proved for every input, as
+   long as the caller keeps to "What the caller owes". Trusted is the compiler.
 
    AN EXAMPLE
 
@@ -85,12 +85,13 @@
    - set, out and answer do not overlap;
    - during the call nobody else writes to any of them, or reads out or answer.
 
-   WHAT A CALL TAKES. Nothing is allocated, nothing is kept from call to call, nothing is called back,
-   no system call is made. So several threads may call at once, each with an out and an answer of its
-   own; they may share a set.
+   WHAT A CALL TAKES. But for how many lengths are compared, this is read from the compiled code or
+   measured, and not proved.
+   Nothing is allocated, nothing is kept from call to call, nothing is called back, no system call is
+   made. So several threads may call at once, each with an out and an answer of its own; they may
+   share a set.
    Stack: allow 52 KB for simaurkoi_exact, 20 KB for simaurkoi_superposition, 14 KB for
-   simaurkoi_rewrite. The frames take 49,408, 18,160 and 12,976 bytes, as read from the compiled
-   code; this is not proved.
+   simaurkoi_rewrite. The frames take 49,408, 18,160 and 12,976 bytes.
    Time: the exact test compares fewer than 1,107,296,256 lengths. Most sets have far fewer; the
    longest runs take seconds. Superposition compares at most k lengths for each record of kind 1 and
    one for each of kind 2, which takes milliseconds; rewriting takes microseconds. */
