@@ -7,7 +7,7 @@ use mathlib.Core.List.{List}
 use mathlib.Core.Logic.{_⊎_, ⊎-elim, _↔_}
 use native.Mathlib.Omega.{arith}
 use lib.Dec.{ltb}
-use lib.ListN.{length, take, length-take}
+use lib.ListN.{length, take}
 use lib.Seq.{take-all}
 use borrow.Author.Tests.{le-leb, lt-leb, ltb-true, ltb-false}
 use Rattle.model.specs.declared.elements.Element.{Element}
@@ -27,8 +27,8 @@ use Rattle.theory.specs.Exactness.{Overloaded, ShowsTheSmallest, ShowsTheFirst}
 use Rattle.theory.specs.Approximation.{budget, NearOverrun, HoldsBack, Accepts}
 use Rattle.model.proofs.Cases.{test, lt-or-le}
 use Rattle.model.proofs.NumberLaws.{least-is}
-use Rattle.model.proofs.ElementLaws.{Within, legal-set}
-use Rattle.model.proofs.TurnedAwayLaws.{then-fine, set-fine, k-fine}
+use Rattle.model.proofs.ElementLaws.{Within}
+use Rattle.model.proofs.TurnedAwayLaws.{then-fine, k-fine}
 use Rattle.theory.proofs.DemandRests.{demand-at-zero}
 use Rattle.theory.proofs.OverloadShowsTheFirst.{exact-shows-the-first, superposition-shows-the-first}
 use Rattle.theory.proofs.ExactShowsTheSmallest.{overloaded-exactly-when, shows-the-smallest, otherwise-passes}
@@ -36,7 +36,7 @@ use Rattle.theory.proofs.SuperpositionAnswers.{superposition-answers}
 use Rattle.theory.proofs.SuperpositionIsSafe.{no-overrun-if-superposition-accepts}
 use Rattle.theory.proofs.SuperpositionIsClose.{near-overrun-if-superposition-holds-back}
 use Rattle.theory.proofs.SuperpositionIsShort.{compares-at-most}
-use Rattle.theory.proofs.TakenSetsAreLegal.{verdict-is}
+use Rattle.theory.proofs.TakenSetsAreLegal.{verdict-is, fine-is-legal}
 use Rattle.wire.proofs.ReadingLaws.{elements-legal}
 use Rattle.analysis.specs.InBytes.{exactOfBytes, superpositionOfBytes}
 use Rattle.analysis.specs.Demands.{Input, in-memory, as-bytes, elements, checkInput, placeIn, exactOn, superpositionOn, BringsHAbove, Ends, refused-first, refused-by-8, refused-by-11, given}
@@ -57,9 +57,7 @@ superposition-on k (in-memory t) = refl
 superposition-on k (as-bytes b) = refl
 
 input-legal : (x : Input) → checkInput x ≡ Fine → AllLegal (elements x) × (length (elements x) ≤ places)
-input-legal (in-memory t) h =
-    let g = legal-set t .0 (set-fine t .0 h) in
-    (g .1, omega (arith, g .0, length-take (t .count) (t .table)))
+input-legal (in-memory t) h = fine-is-legal t h
 input-legal (as-bytes b) h = elements-legal places 0 b h
 
 -- DEMAND 1: "Every input gets a defined end: a verdict, or one numbered refusal with its place."

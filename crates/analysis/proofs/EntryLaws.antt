@@ -1,6 +1,6 @@
 -- The entry points: what each answers for a set that is refused before 8, and for one that is taken. Assumes nothing.
 use Prim.Native.Nat.{ℕ}
-use mathlib.Core.Path.{_≡_, ap, _∙_}
+use mathlib.Core.Path.{_≡_, sym, ap, _∙_}
 use mathlib.Core.Bool.{true}
 use mathlib.Core.List.{List}
 use Rattle.model.specs.declared.elements.TaskSet.{TaskSet}
@@ -14,27 +14,20 @@ use Rattle.model.specs.TurnedAway.{_then_, checkSet, checkK, exactIsLarge, supe
 use Rattle.wire.specs.declared.reading.ReadSet.{ReadSet}
 use Rattle.wire.specs.Reading.{checkRecords, elementsIn, readSet}
 use Rattle.model.proofs.ElementLaws.{legal-set, set-counted}
+use Rattle.model.proofs.TurnedAwayLaws.{set-fine}
+use Rattle.theory.proofs.AnswerLaws.{refused-before, fine-before}
 use Rattle.wire.proofs.ReadingLaws.{elements-legal, read-check, read-elements}
 use Rattle.analysis.specs.InBytes.{kindByte, exactOfBytes, superpositionOfBytes}
 use Rattle.analysis.specs.LegalSets.{exactOf, superpositionOf, inBytes}
-use Rattle.analysis.proofs.AnswerLaws.{refused-before, fine-before}
 use Rattle.analysis.proofs.ByteLaws.{answer-in-bytes}
 
 -- A SET IN MEMORY
 module _ (t : TaskSet) where
-  pub exact-refused : {r : Refusal} → checkSet t ≡ TurnedAway r → Refused r ≡ exactAnswer t
-  unfolding exactAnswer
-  exact-refused h = refused-before (checkSet t) (λ place. place) exactIsLarge exact (counted t) h
-
   pub exact-taken : checkSet t ≡ Fine → exactOf (counted t) ≡ exactAnswer t
   unfolding exactAnswer
   exact-taken h = fine-before (checkSet t) (λ place. place) exactIsLarge exact (counted t) h
 
   module _ (k : ℕ) where
-    pub superposition-refused : {r : Refusal} → (checkK k then checkSet t) ≡ TurnedAway r → Refused r ≡ superpositionAnswer k t
-    unfolding superpositionAnswer
-    superposition-refused h = refused-before (checkK k then checkSet t) (λ place. place) (superpositionIsLarge k) (superposition k) (counted t) h
-
     pub superposition-taken : (checkK k then checkSet t) ≡ Fine → superpositionOf k (counted t) ≡ superpositionAnswer k t
     unfolding superpositionAnswer
     superposition-taken h = fine-before (checkK k then checkSet t) (λ place. place) (superpositionIsLarge k) (superposition k) (counted t) h
@@ -59,6 +52,16 @@ read-taken b {x} e fine =
       legal = legal-set (x .set) .1 (rw (ap (λ t. t .count) set) (legal .1), rw elements (legal .0));
     }
 
+module _ {b : List ℕ} {t : TaskSet} (r : Read b t) where
+  set-is-fine : checkSet t ≡ Fine
+  set-is-fine = set-fine t .1 (r .legal)
+
+  pub exact-read : exactAnswer t ≡ exactOf (elementsIn places b)
+  exact-read = sym (exact-taken t set-is-fine) ∙ ap exactOf (r .elements)
+
+  pub superposition-read : (k : ℕ) → checkK k ≡ Fine → superpositionAnswer k t ≡ superpositionOf k (elementsIn places b)
+  superposition-read k h = sym (superposition-taken t k (rw (h, set-is-fine))) ∙ ap (superpositionOf k) (r .elements)
+
 module _ (b : List ℕ) where
   pub exact-bytes-refused : {r : Refusal} → checkRecords places 0 b ≡ TurnedAway r → Refused r ≡ exactOfBytes b
   unfolding exactOfBytes
@@ -70,10 +73,15 @@ module _ (b : List ℕ) where
       answer-in-bytes exactIsLarge exact (elementsIn places b) b ∙ fine-before (checkRecords places 0 b) (kindByte b) exactIsLarge exact (elementsIn places b) h
 
   module _ (k : ℕ) where
-    pub superposition-bytes-refused : {r : Refusal} → (checkK k then checkRecords places 0 b) ≡ TurnedAway r → Refused r ≡ superpositionOfBytes k b
+    pub superposition-bytes-refused-k : {r : Refusal} → checkK k ≡ TurnedAway r → Refused r ≡ superpositionOfBytes k b
     unfolding superpositionOfBytes
-    superposition-bytes-refused h =
-        refused-before (checkK k then checkRecords places 0 b) (kindByte b) (superpositionIsLarge k) (superposition k) (elementsIn places b) h
+    superposition-bytes-refused-k h =
+        refused-before (checkK k then checkRecords places 0 b) (kindByte b) (superpositionIsLarge k) (superposition k) (elementsIn places b) (rw h)
+
+    pub superposition-bytes-refused : {r : Refusal} → checkK k ≡ Fine → checkRecords places 0 b ≡ TurnedAway r → Refused r ≡ superpositionOfBytes k b
+    unfolding superpositionOfBytes
+    superposition-bytes-refused f h =
+        refused-before (checkK k then checkRecords places 0 b) (kindByte b) (superpositionIsLarge k) (superposition k) (elementsIn places b) (rw f h)
 
     pub superposition-bytes-taken :
         (checkK k then checkRecords places 0 b) ≡ Fine → inBytes b (superpositionOf k (elementsIn places b)) ≡ superpositionOfBytes k b

@@ -16,7 +16,7 @@ use Rattle.model.specs.Elements.{places, mostH, counted}
 use Rattle.model.specs.Demand.{H}
 use Rattle.model.specs.TurnedAway.{checkSet, exactAnswer, superpositionAnswer}
 use Rattle.wire.specs.Reading.{checkRecords, elementsIn}
-use Rattle.analysis.specs.Comparing.{refusedBy}
+use Rattle.theory.specs.Comparing.{refusedBy}
 use Rattle.analysis.specs.InBytes.{kindByte, exactOfBytes, superpositionOfBytes}
 
 -- what an entry point is given

@@ -1,14 +1,19 @@
-// Places in bytes.
+// Document 01's two tests of a set as bytes: the set that is read, with 8 at its kind byte.
 ghost use Prim.Native.Nat.{_≤_};
 ghost use mathlib.Core.Path.{_≡_};
 ghost use lib.ListN.{length};
 ghost use Rattle.model.specs.Elements.{places};
 ghost use Rattle.model.specs.declared.answers.Check.the-variants.{Fine};
 ghost use Rattle.wire.specs.Reading.{checkRecords, elementsIn};
-ghost use Rattle.analysis.specs.InBytes.{kindByte};
+ghost use Rattle.analysis.specs.InBytes.{kindByte, exactOfBytes, superpositionOfBytes};
 ghost use Rattle.analysis.specs.LegalSets.{inBytes, Placed};
+use exact_test::exact;
 use model::Answer;
+use model::Check;
 use model::Refusal;
+use model::checks::check_k;
+use superposition_test::superposition;
+use wire::read_set;
 use wire::rest;
 
 // The place of the kind byte of the record with this number.
@@ -28,7 +33,7 @@ fn kind_byte(bytes: &[u8], number: usize) -> usize
 }
 
 // Refusal 8 at its kind byte.
-pub(crate) fn in_bytes(bytes: &[u8], answer: Answer) -> Answer
+fn in_bytes(bytes: &[u8], answer: Answer) -> Answer
     requires { ⌜ checkRecords places 0 (now bytes) ≡ Fine ⌝ }
     requires { ⌜ Placed (length (elementsIn places (now bytes))) answer ⌝ }
     ensures { λ r. ⌜ r ≡ inBytes (now (bytes .entry)) answer ⌝ }
@@ -43,4 +48,33 @@ pub(crate) fn in_bytes(bytes: &[u8], answer: Answer) -> Answer
         number: 8,
         place: kind_byte(bytes, r.place),
     })
+}
+
+// The exact test.
+pub fn exact_of_bytes(bytes: &[u8]) -> Answer
+    ensures { λ r. ⌜ r ≡ exactOfBytes (now (bytes .entry)) ⌝ }
+{
+    let read = read_set(bytes);
+    let of_records = read.check;
+    if let Check::TurnedAway(r) = of_records {
+        return Answer::Refused(r);
+    }
+    let answer = exact(read.set);
+    in_bytes(bytes, answer)
+}
+
+// Superposition: k is looked at first.
+pub fn superposition_of_bytes(bytes: &[u8], k: u32) -> Answer
+    ensures { λ r. ⌜ r ≡ superpositionOfBytes k (now (bytes .entry)) ⌝ }
+{
+    if let Check::TurnedAway(r) = check_k(k) {
+        return Answer::Refused(r);
+    }
+    let read = read_set(bytes);
+    let of_records = read.check;
+    if let Check::TurnedAway(r) = of_records {
+        return Answer::Refused(r);
+    }
+    let answer = superposition(read.set, k);
+    in_bytes(bytes, answer)
 }

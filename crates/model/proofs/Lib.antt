@@ -1,6 +1,7 @@
 pub mod Cases
 pub mod NumberLaws
 pub mod OverLaws
+pub mod StoreLaws
 pub mod ElementLaws
 pub mod TurnedAwayLaws
 pub mod CheckingASet

@@ -20,7 +20,7 @@ use Rattle.model.specs.Number.{least}
 use Rattle.model.proofs.Cases.{lt-or-le}
 use Rattle.model.proofs.NumberLaws.{IsFirst, least-most, least-at}
 use Rattle.wire.specs.Writing.{over}
-use Rattle.wire.proofs.WritingLaws.{two-runs}
+use Rattle.model.proofs.StoreLaws.{two-runs}
 use Rattle.printer.specs.Text.{decimal, field, newline, line, refusedLine}
 use Rattle.printer.specs.Putting.{Puts}
 

@@ -3,6 +3,8 @@ pub mod ExactTestLaws
 pub mod SuperpositionLaws
 pub mod HyperperiodIsLeast
 pub mod HyperperiodGrows
+pub mod LoadLaws
+pub mod SizeLaws
 pub mod TestLengthsAre
 pub mod DemandRepeats
 pub mod DemandRises
@@ -10,6 +12,7 @@ pub mod DemandRests
 pub mod DemandGrows
 pub mod ScaledDemandGrows
 pub mod OverloadShowsTheFirst
+pub mod OverloadLaws
 pub mod ExactShowsTheSmallest
 pub mod SuperpositionAnswers
 pub mod SuperpositionIsSafe
@@ -18,3 +21,7 @@ pub mod SuperpositionIsShort
 pub mod NothingPastTheCount
 pub mod StarredSums
 pub mod TakenSetsAreLegal
+pub mod ComparingLaws
+pub mod AnswerLaws
+pub mod PlaceLaws
+pub mod AddingUp

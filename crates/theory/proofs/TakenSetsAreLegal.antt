@@ -1,11 +1,12 @@
 -- A set in memory that gets a verdict is legal, its H is within its limit, and the verdict is the definition's: so the theorems about legal
 -- elements hold of every verdict given. Assumes nothing.
-use Prim.Native.Nat.{ℕ}
+use Prim.Native.Nat.{ℕ, _≤_}
 use mathlib.Core.Path.{_≡_, refl}
 use mathlib.Core.Bool.{Bool}
 use mathlib.Core.List.{List}
 use native.Mathlib.Omega.{arith}
 use lib.Dec.{leb}
+use lib.ListN.{length, length-take}
 use borrow.Author.Tests.{leb-true}
 use Rattle.model.specs.declared.elements.Element.{Element}
 use Rattle.model.specs.declared.elements.TaskSet.{TaskSet}
@@ -13,7 +14,7 @@ use Rattle.model.specs.declared.answers.Check.{Check}
 use Rattle.model.specs.declared.answers.Check.the-variants.{Fine, TurnedAway}
 use Rattle.model.specs.declared.answers.Verdict.{Verdict}
 use Rattle.model.specs.declared.answers.Answer.the-variants.{Given}
-use Rattle.model.specs.Elements.{mostH, mostK, counted}
+use Rattle.model.specs.Elements.{places, mostH, mostK, AllLegal, counted}
 use Rattle.model.specs.Demand.{H}
 use Rattle.model.specs.ExactTest.{exact}
 use Rattle.model.specs.Superposition.{superposition}
@@ -35,6 +36,12 @@ verdict-is before placeOf isTooLarge verdict s v h =
     let g = given-fine _ (verdict s) v h in
     let b = then-fine before _ .0 (g .0) in
     (b .0, then-fine (checkH placeOf s) _ .0 (b .1) .0, g .1)
+
+-- a set whose count and values are fine
+pub fine-is-legal : (t : TaskSet) → checkSet t ≡ Fine → AllLegal (counted t) × (length (counted t) ≤ places)
+fine-is-legal t h =
+    let g = legal-set t .0 (set-fine t .0 h) in
+    (g .1, omega (arith, g .0, length-take (t .count) (t .table)))
 
 taken : (t : TaskSet) → checkSet t ≡ Fine → checkH (λ place. place) (counted t) ≡ Fine → Taken t
 unfolding checkH

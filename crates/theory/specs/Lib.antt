@@ -4,3 +4,6 @@ pub mod Exactness
 pub mod Approximation
 pub mod Taken
 pub mod Growth
+pub mod Places
+pub mod Sizes
+pub mod Comparing

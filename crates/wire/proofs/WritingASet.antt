@@ -12,7 +12,8 @@ use Rattle.model.specs.Elements.{places, counted}
 use Rattle.model.proofs.ElementLaws.{counted-long, counted-at}
 use Rattle.wire.specs.Format.{recordOf, recordsOf}
 use Rattle.wire.specs.Writing.{bytesOf, over}
-use Rattle.wire.proofs.WritingLaws.{sets-append, start-length, record-length, records-step, records-within}
+use Rattle.model.proofs.StoreLaws.{sets-append}
+use Rattle.wire.proofs.WritingLaws.{start-length, record-length, records-step, records-within}
 
 -- n bytes are counted
 pub record Sizing (t : TaskSet) (i n : ℕ) : Type 0 where

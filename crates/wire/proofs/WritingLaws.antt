@@ -1,11 +1,11 @@
--- Laws of specs/Format and specs/Writing: stores that follow one another, sizes, the records up to one more, and the outcomes. Assumes nothing.
+-- Laws of specs/Format and specs/Writing: sizes, the records up to one more, and the outcomes. Assumes nothing.
 use Prim.Native.Nat.{ℕ, suc, _+_, _≤_, _<_}
 use mathlib.Core.Path.{_≡_, refl, sym, ap, _∙_}
 use mathlib.Core.List.{List, [], _∷_, _++_, append-assoc, append-nil}
 use native.Mathlib.Omega.{arith}
 use native.Mathlib.Numerals.{add-one}
-use lib.ListN.{length, set, take, drop, getD, length-append, take-append-drop}
-use lib.Seq.{sets, take-suc}
+use lib.ListN.{length, take, drop, getD, length-append, take-append-drop}
+use lib.Seq.{take-suc}
 use borrow.Author.Tests.{le-leb, lt-leb}
 use Rattle.model.specs.declared.elements.Period.{Period}
 use Rattle.model.specs.declared.elements.Period.the-variants.{Once, Every}
@@ -17,20 +17,6 @@ use Rattle.model.specs.TurnedAway.{unless, checkSet}
 use Rattle.wire.specs.declared.writing.Written.the-variants.{Bytes, Refused}
 use Rattle.wire.specs.Writing.{bytesOf, checkWrite, writeSet, over, bufferAfter}
 use Rattle.wire.specs.Format.{numberBytes, startOf, recordOf, recordsOf}
-
--- STORES that follow one another
-pub sets-append : (xs ys l : List ℕ) (i n : ℕ) → n ≡ i + length xs → sets (sets l i xs) n ys ≡ sets l i (xs ++ ys)
-sets-append [] ys l i n h = let same : n ≡ i = omega arith in ap (λ k. sets l k ys) same
-sets-append (x ∷ xs) ys l i n h = sets-append xs ys (set l i x) (suc i) n (omega arith)
-
--- as two calls leave them
-pub two-runs :
-    (l₀ l₁ l₂ xs ys : List ℕ) (i n : ℕ) →
-    l₁ ≡ sets l₀ i xs →
-    l₂ ≡ sets l₁ n ys →
-    n ≡ i + length xs →
-    l₂ ≡ sets l₀ i (xs ++ ys)
-two-runs l₀ l₁ l₂ xs ys i n p q h = q ∙ ap (λ l. sets l n ys) p ∙ sets-append xs ys l₀ i n h
 
 -- SIZES
 pub number-length : (x : ℕ) → length (numberBytes x) ≡ 4

@@ -4,7 +4,8 @@ use mathlib.Core.List.{_++_}
 use native.Mathlib.Omega.{arith}
 use borrow.Author.Needs.{needs}
 use Rattle.wire.specs.Format.{numberBytes, startOf, recordOf}
-use Rattle.wire.proofs.WritingLaws.{two-runs, record-length}
+use Rattle.model.proofs.StoreLaws.{two-runs}
+use Rattle.wire.proofs.WritingLaws.{record-length}
 use Rattle.wire.proofs.writing.put_record.Statement.{statement}
 use Rattle.wire.proofs.writing.put_record.Tie as tie
 

@@ -7,7 +7,8 @@ use lib.ListN.{length-set}
 use lib.Seq.{sets}
 use borrow.Author.Needs.{needs}
 use Rattle.wire.specs.Format.{numberBytes}
-use Rattle.wire.proofs.WritingLaws.{two-runs, once-start, every-start, every-length, start-length}
+use Rattle.model.proofs.StoreLaws.{two-runs}
+use Rattle.wire.proofs.WritingLaws.{once-start, every-start, every-length, start-length}
 use Rattle.wire.proofs.writing.put_start.Statement.{statement}
 use Rattle.wire.proofs.writing.put_start.Tie as tie
 

@@ -4,7 +4,8 @@ use mathlib.Core.List.{_++_}
 use native.Mathlib.Omega.{arith}
 use borrow.Author.Needs.{needs}
 use Rattle.wire.specs.Format.{numberBytes}
-use Rattle.wire.proofs.WritingLaws.{two-runs, number-length, two-length}
+use Rattle.model.proofs.StoreLaws.{two-runs}
+use Rattle.wire.proofs.WritingLaws.{number-length, two-length}
 use Rattle.wire.proofs.writing.put_three.Statement.{statement}
 use Rattle.wire.proofs.writing.put_three.Tie as tie
 

@@ -1,0 +1,10 @@
+pub mod DateLaws
+pub mod BitLaws
+pub mod SegmentLaws
+pub mod AddingDates
+pub mod FillingASegment
+pub mod SweepingASegment
+pub mod SegmentsMeetDemand
+pub mod SweepMeetsTest
+pub mod ComparingSegments
+pub mod Outcomes

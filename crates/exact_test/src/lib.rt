@@ -1,0 +1,27 @@
+// Document 01, "Exact test", of a set in memory.
+ghost use mathlib.Core.Path.{_≡_};
+ghost use Rattle.model.specs.TurnedAway.{exactAnswer};
+
+mod lengths;
+mod segments;
+
+use lengths::compare_lengths;
+use load::Loaded;
+use load::load_of;
+use model::Answer;
+use model::TaskSet;
+
+// A refusal by 3 to 8, or 11, or the verdict: the test lengths below F + H are compared.
+pub fn exact(set: TaskSet) -> Answer
+    ensures { λ r. ⌜ r ≡ exactAnswer set ⌝ }
+{
+    match load_of(set) {
+        Loaded::Refused(r) => Answer::Refused(r),
+        Loaded::AboveOne(verdict) => Answer::Given(verdict),
+        Loaded::AtMostOne {
+            first,
+            hyperperiod,
+            load: _,
+        } => compare_lengths(set, first + hyperperiod),
+    }
+}

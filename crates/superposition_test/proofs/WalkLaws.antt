@@ -1,0 +1,341 @@
+-- What holds whenever the walk turns to its next length, with `before` the last that it compared. Assumes nothing.
+use Prim.Native.Nat.{ℕ, suc, _+_, _*_, _-_, _≤_, _<_}
+use mathlib.Core.Path.{_≡_, sym, ap, _∙_}
+use mathlib.Core.Bool.{Bool, true, false, _||_, cond, or-true}
+use mathlib.Core.List.{List}
+use mathlib.Core.Logic.{⊎-elim}
+use native.Mathlib.Omega.{arith}
+use native.Mathlib.Nat.{mul-le-mul}
+use borrow.Author.Tests.{lt-ltb, le-ltb}
+use lib.Dec.{ltb}
+use lib.ListN.{length}
+use Rattle.model.specs.declared.elements.Element.{Element}
+use Rattle.model.specs.declared.elements.TaskSet.{TaskSet}
+use Rattle.model.specs.declared.answers.Verdict.the-variants.{Passes, NotShown}
+use Rattle.model.specs.declared.answers.Answer.{Answer}
+use Rattle.model.specs.declared.answers.Answer.the-variants.{Given}
+use Rattle.model.specs.Number.{howMany}
+use Rattle.model.specs.Elements.{mostCost, mostH, places, filler, counted}
+use Rattle.model.specs.Demand.{H, D, loadIn}
+use Rattle.model.specs.Superposition.{m, HD', isAbove, isVisited, superpositionLengths}
+use Rattle.model.specs.TurnedAway.{isLarge, isLargeAt}
+use Rattle.model.proofs.Cases.{test, clash, lt-or-le}
+use Rattle.model.proofs.NumberLaws.{howMany-zero, howMany-gap, howMany-rises, howMany-more, howMany-all}
+use Rattle.model.proofs.OverLaws.{each-map, sum-le, sum-zero, sum-most}
+use Rattle.model.proofs.ElementLaws.{Legal, all-legal}
+use Rattle.model.proofs.TurnedAwayLaws.{is-large, not-large}
+use Rattle.theory.specs.Approximation.{budget}
+use Rattle.theory.specs.Growth as growth
+use Rattle.theory.proofs.ScaledDemandGrows.{scaled-grows, slope-grows, scaled-rises-along}
+use Rattle.theory.proofs.SuperpositionAnswers.{visited-below}
+use Rattle.theory.proofs.SuperpositionIsSafe.{scaled-starts}
+use Rattle.theory.proofs.SuperpositionIsShort.{visits-at-most}
+use Rattle.load.specs.declared.comparing.Sum.the-variants as sum
+use Rattle.superposition_test.specs.declared.walk.Moved.{Moved}
+use Rattle.load.specs.Sums.{sumOf}
+use Rattle.theory.specs.Comparing.{refusedBy, compared, isLargeWith}
+use Rattle.theory.specs.Places.{elementAt}
+use Rattle.load.proofs.ColumnLaws.{Laid}
+use Rattle.theory.specs.Sizes.{mostLength}
+use Rattle.superposition_test.specs.Walk.{none, Fit, Least, Limited, Movable, MovedOn}
+use Rattle.theory.proofs.PlaceLaws.{LegalPlaces}
+use Rattle.load.proofs.SumLaws.{sum-tells}
+use Rattle.theory.proofs.ComparingLaws.{Upto, upto-zero, upto-gap, upto-more, compared-large, compared-failing, compared-clear}
+use Rattle.load.proofs.ColumnLaws.{step-within}
+use Rattle.theory.proofs.LoadLaws.{rise-most}
+use Rattle.theory.proofs.SizeLaws.{demand-small}
+use Rattle.superposition_test.proofs.NextLaws.{not-at-zero, next-start}
+use Rattle.superposition_test.proofs.VisitLaws.{Columns, Nexts, visits-place, visited-most, quiet, at-later, at-visited}
+use Rattle.superposition_test.proofs.VisitLaws.{moved-nexts, moved-due, moved-rise}
+
+module _ (t : TaskSet) (k h : ℕ) where
+  -- the visited lengths up to x hold and fit
+  abbrev Passed : ℕ → Type 0
+  Passed x = Upto (superpositionLengths k (counted t)) (isLargeWith k (counted t)) (suc x)
+
+  abbrev slopeAt : ℕ → ℕ
+  slopeAt I = growth.slope k (H (counted t)) (counted t) I
+
+  pub record Walking (step cost last rise next : List ℕ) (before scaled slope count left : ℕ) : Type 0 where
+    pub set : LegalPlaces t
+    pub fit : Fit t k h
+    pub columns : Columns t k step cost last rise
+    pub long : length next ≡ places
+    pub nexts : Nexts t k before next
+    pub sum : scaled ≡ HD' k (counted t) before
+    pub slopes : slope ≡ slopeAt before
+    pub passed : Passed before
+    pub counts : count ≡ howMany (isVisited k (counted t)) (suc before)
+    pub budgets : left + count ≡ budget k (counted t)
+    pub few : count ≤ before
+    pub low : before ≤ mostLength
+
+  -- THE START
+  module _ (p : LegalPlaces t) (w : Fit t k h) where
+    zero-unvisited : isVisited k (counted t) 0 ≡ false
+    zero-unvisited = ⊎-elim
+        (λ v. let i = visits-place t p k 0 v in absurd (clash (i .2) (not-at-zero k (elementAt t (i .0)) (p .legal (i .0) (i .1)))))
+        (λ v. v)
+        (test (isVisited k (counted t) 0))
+
+    no-slope : (e : Element) → Legal e → cond (ltb 0 (m k e)) 0 (growth.riseOf (H (counted t)) e) ≡ 0
+    no-slope e g = rw (lt-ltb 0 (m k e) (omega (arith, g .deadline .0)))
+
+    slope-starts : slopeAt 0 ≡ 0
+    unfolding growth.slope
+    slope-starts = sum-zero (counted t) _ (each-map (counted t) no-slope (all-legal (counted t) (p .all)))
+
+    pub start :
+        (next step cost last rise : List ℕ) (left : ℕ) → Laid t next step cost → Limited t k h last rise → left ≡ budget k (counted t) →
+        Walking step cost last rise next 0 0 0 0 left
+    start next step cost last rise left a b e = record {
+      set = p;
+      fit = w;
+      columns = record {
+        steps = a .steps;
+        costs = a .costs;
+        lasts = b .lasts;
+        rises = λ i q. b .rises i q ∙ ap (λ z. growth.riseOf z (elementAt t i)) (w .hyperperiod);
+      };
+      long = a .long;
+      nexts = λ i q. rw (a .nexts i q) (next-start k (elementAt t i) (p .legal i q));
+      sum = sym (scaled-starts k (H (counted t)) (counted t) (w .low) (all-legal (counted t) (p .all)));
+      slopes = sym slope-starts;
+      passed = upto-gap _ _ 0 1 (upto-zero _ _) (λ J m n. let z : J ≡ 0 = omega arith in rw z zero-unvisited);
+      counts =
+          let g = howMany-gap (isVisited k (counted t)) 0 1 (λ J m n. let z : J ≡ 0 = omega arith in rw z zero-unvisited) in
+          sym (g ∙ howMany-zero (isVisited k (counted t)));
+      budgets = omega (arith, e);
+      few = omega arith;
+      low = omega arith;
+    }
+
+  abbrev answer : Answer
+  answer = compared (counted t) NotShown (superpositionLengths k (counted t)) (isLargeWith k (counted t))
+
+  -- THE MOVE: every place that has the length `at` has moved on; what is due there is added, and the slope grows by `more`
+  pub record Turning (step cost last rise next : List ℕ) (before scaled slope count left at due more : ℕ) : Type 0 where
+    pub set : LegalPlaces t
+    pub fit : Fit t k h
+    pub columns : Columns t k step cost last rise
+    pub long : length next ≡ places
+    pub nexts : Nexts t k at next
+    pub going : 0 < left
+    pub later : before < at
+    pub low : at ≤ mostLength
+    pub visit : isVisited k (counted t) at ≡ true
+    pub passed : Upto (superpositionLengths k (counted t)) (isLargeWith k (counted t)) at
+    pub sum : scaled + (slope * (at - before) + due * h) ≡ HD' k (counted t) at
+    pub slopes : slope + more ≡ slopeAt at
+    pub counts : count ≡ howMany (isVisited k (counted t)) at
+    pub budgets : left + count ≡ budget k (counted t)
+    pub few : count ≤ before
+    pub line-small : slope * (at - before) ≤ mostH * mostLength
+    pub due-few : due ≤ places * mostCost
+    pub due-small : due * h ≤ places * mostCost * mostH
+    pub slope-small : slope + more ≤ mostH
+    pub top-small : h * at ≤ mostH * mostLength
+
+  part-of : (b : Bool) (x : ℕ) → (cond b x 0 ≤ x) × (cond b 0 x ≤ x)
+  part-of true x = (omega arith, omega arith)
+  part-of false x = (omega arith, omega arith)
+
+  slope-part :
+      (I : ℕ) (e : Element) → Legal e → cond (ltb I (m k e)) 0 (growth.riseOf (H (counted t)) e) ≤ growth.riseOf (H (counted t)) e
+  slope-part I e g = part-of (ltb I (m k e)) (growth.riseOf (H (counted t)) e) .1
+
+  module _
+      {step cost last rise next : List ℕ} {before scaled slope count left : ℕ}
+      (w : Walking step cost last rise next before scaled slope count left) where
+    slope-most : (I : ℕ) → slopeAt I ≤ mostH
+    unfolding growth.slope loadIn
+    slope-most I =
+        omega (
+          arith,
+          sum-le (counted t) _ _ (each-map (counted t) (slope-part I) (all-legal (counted t) (w .set .all))),
+          w .fit .load,
+          w .fit .small,
+        )
+
+    -- THE END: no length is visited past the last compared
+    done : ((I : ℕ) → isVisited k (counted t) I ≡ true → I < suc before) → Given (Passes count) ≡ answer
+    done rest =
+        let c = superpositionLengths k (counted t) in
+        let u = upto-gap c (isLargeWith k (counted t)) (suc before) (c .end) (w .passed) (λ J a b.
+        ⊎-elim (λ v. absurd (omega (arith, rest J v))) (λ v. v) (test (isVisited k (counted t) J))) in
+        ap (λ n. Given (Passes n)) (w .counts ∙ howMany-all (isVisited k (counted t)) (suc before) (c .end) rest (visited-below k (counted t)))
+        ∙ sym (compared-clear (counted t) NotShown c (isLargeWith k (counted t)) (c .end) (omega arith) u)
+
+    pub none-left : Least next (t .count) none → Given (Passes count) ≡ answer
+    none-left l = done (λ I v. ⊎-elim
+        (λ a. absurd (clash v (quiet t (w .set) k before none next (w .nexts) l I a (omega (arith, visited-most t (w .set) k (w .fit .high) I v)))))
+        (λ a. omega arith)
+        (lt-or-le before I))
+
+    -- with the budget spent every visited length is compared
+    pub spent : left ≤ 0 → Given (Passes count) ≡ answer
+    spent z = done (λ I v. ⊎-elim
+        (λ (a : before < I).
+        let e : suc before + (I - suc before) ≡ I = omega arith in
+        let r = rw e at (howMany-rises (isVisited k (counted t)) (suc before) (I - suc before)) in
+        absurd (omega (
+          arith,
+          r,
+          rw v at (howMany-more (isVisited k (counted t)) I),
+          visits-at-most k (counted t) (suc I) (w .set .all) (w .fit .low),
+          w .counts,
+          w .budgets,
+        )))
+        (λ a. omega arith)
+        (lt-or-le before I))
+
+    -- A STEP to the least next length
+    module _ (at : ℕ) (l : Least next (t .count) at) (b : at < none) where
+      visit : isVisited k (counted t) at ≡ true
+      visit = at-visited t (w .set) k before at next (w .nexts) l b
+
+      high : at ≤ mostLength
+      high = visited-most t (w .set) k (w .fit .high) at visit
+
+      later : before < at
+      later = at-later t (w .set) k before at next (w .nexts) l b
+
+      pub movable : Movable next step cost rise (t .count) at
+      movable = record {
+        few = w .set .few;
+        long = w .long;
+        steps = λ i q. rw (w .columns .steps i q) (step-within (elementAt t i .period) (w .set .legal i q .period) .1);
+        costs = λ i q. rw (w .columns .costs i q) (w .set .legal i q .cost .1);
+        rises = λ i q.
+            rw (w .columns .rises i q)
+            (rise-most (elementAt t i) (w .set .legal i q) (H (counted t)) (omega (arith, w .fit .hyperperiod, w .fit .small)));
+        low = high;
+      }
+
+      -- the ticks between the last length and the one before this
+      abbrev ticks : ℕ
+      ticks = at - suc before
+
+      at-is : suc (before + ticks) ≡ at
+      at-is = omega (arith, later)
+
+      rises-along :
+          (slopeAt (before + ticks) ≡ slopeAt before)
+          × (HD' k (counted t) (before + ticks) ≡ HD' k (counted t) before + slopeAt before * ticks)
+      rises-along =
+          scaled-rises-along k (counted t) (w .set .all) (w .fit .low) before ticks
+          (λ J m n. quiet t (w .set) k before at next (w .nexts) l J m (omega (arith, later)))
+
+      module _ {next′ : List ℕ} {r : Moved} (v : MovedOn next next′ step cost last rise (t .count) at r) where
+        due-is : r .cost ≡ growth.visitedDueAt k (counted t) at
+        due-is = moved-due t (w .set) k before at next (w .nexts) l b (w .columns) v
+
+        due-most : r .cost ≤ places * mostCost
+        unfolding growth.costOf
+        due-most =
+            omega (
+              arith,
+              due-is,
+              sum-most (t .table) (λ e. cond (growth.isVisitedBy k at e) (e .cost) 0) filler mostCost (t .count) (λ i q.
+                  omega (arith, part-of (growth.isVisitedBy k at (elementAt t i)) (elementAt t i .cost) .0, w .set .legal i q .cost .1)),
+              w .set .few,
+            )
+
+        scaled-is : scaled + (slope * (at - before) + r .cost * h) ≡ HD' k (counted t) at
+        scaled-is =
+            let g = rw at-is at (scaled-grows k (counted t) (w .set .all) (w .fit .low) (before + ticks)) in
+            let x : at - before ≡ suc ticks = omega (arith, later) in
+            rw (x, w .fit .hyperperiod, due-is, w .sum, w .slopes) (omega (arith, g, rises-along))
+
+        slope-is : slope + r .rise ≡ slopeAt at
+        slope-is =
+            let g = rw at-is at (slope-grows k (counted t) (w .set .all) (w .fit .low) (before + ticks)) in
+            omega (arith, g, rises-along .0, w .slopes, moved-rise t (w .set) k before at next (w .nexts) l b (w .columns) v)
+
+        pub turn : 0 < left → Turning step cost last rise next′ before scaled slope count left at (r .cost) (r .rise)
+        turn z = record {
+          set = w .set;
+          fit = w .fit;
+          columns = w .columns;
+          long = v .long;
+          nexts = moved-nexts t (w .set) k before at next (w .nexts) l b (w .columns) v;
+          going = z;
+          later = later;
+          low = high;
+          visit = visit;
+          passed = upto-gap _ _ (suc before) at (w .passed) (λ J m n. quiet t (w .set) k before at next (w .nexts) l J m n);
+          sum = scaled-is;
+          slopes = slope-is;
+          counts =
+              let e : suc before + ticks ≡ at = omega (arith, later) in
+              let g = howMany-gap (isVisited k (counted t)) (suc before) ticks (λ J m n.
+              quiet t (w .set) k before at next (w .nexts) l J m (omega (arith, later))) in
+              w .counts ∙ sym (rw e at g);
+          budgets = w .budgets;
+          few = w .few;
+          line-small =
+              mul-le-mul {n₁ = slope} {m₁ = at - before} {n₂ = mostH} {m₂ = mostLength}
+              (omega (arith, w .slopes, slope-most before)) (omega (arith, high));
+          due-few = due-most;
+          due-small = mul-le-mul {n₁ = r .cost} {m₁ = h} {n₂ = places * mostCost} {m₂ = mostH} due-most (w .fit .small);
+          slope-small = omega (arith, slope-is, slope-most at);
+          top-small = mul-le-mul {n₁ = h} {m₁ = at} {n₂ = mostH} {m₂ = mostLength} (w .fit .small) high;
+        }
+
+  -- WHAT IS FOUND THERE
+  module _
+      {step cost last rise next : List ℕ} {before scaled slope count left at due more : ℕ}
+      (w : Turning step cost last rise next before scaled slope count left at due more) where
+    below-end : at < superpositionLengths k (counted t) .end
+    below-end = visited-below k (counted t) at (w .visit)
+
+    top-is : H (counted t) * at ≡ h * at
+    top-is = ap (λ z. z * at) (sym (w .fit .hyperperiod))
+
+    pub too-large : sum.TooLarge ≡ sumOf scaled (slope * (at - before) + due * h) → refusedBy 11 0 ≡ answer
+    too-large g =
+        let big = is-large (HD' k (counted t) at) (omega (arith, sum-tells scaled (slope * (at - before) + due * h) g, w .sum)) in
+        sym (compared-large _ _ _ _ at below-end (w .passed) (w .visit) (rw big (or-true (isLargeAt (counted t) at || isLarge (H (counted t) * at)))))
+
+    module _ {x : ℕ} (g : sum.Fits x ≡ sumOf scaled (slope * (at - before) + due * h)) where
+      x-is : x ≡ HD' k (counted t) at
+      x-is = sum-tells scaled (slope * (at - before) + due * h) g .0 ∙ w .sum
+
+      none-large : isLargeWith k (counted t) at ≡ false
+      unfolding isLargeAt
+      none-large =
+          let s = counted t in
+          rw (
+            not-large at (omega (arith, w .low)),
+            not-large (D s at) (omega (arith, demand-small s (w .set .all) (w .set .short) at (w .low))),
+            not-large (H s * at) (omega (arith, w .top-small, top-is)),
+            not-large (HD' k s at) (omega (arith, w .sum, sum-tells scaled (slope * (at - before) + due * h) g .1)),
+          )
+
+      one-more : count + 1 ≡ howMany (isVisited k (counted t)) (suc at)
+      one-more = omega (arith, w .counts, rw (w .visit) at (howMany-more (isVisited k (counted t)) at))
+
+      pub failing : h * at < x → Given (NotShown at (D (counted t) at) (count + 1)) ≡ answer
+      unfolding isAbove
+      failing u =
+          let above = lt-ltb (H (counted t) * at) (HD' k (counted t) at) (omega (arith, x-is, top-is)) in
+          ap (λ n. Given (NotShown at (D (counted t) at) n)) one-more ∙ sym (compared-failing _ _ _ _ at below-end (w .passed) (w .visit) none-large above)
+
+      pub again : x ≤ h * at → Walking step cost last rise next at x (slope + more) (count + 1) (left - 1)
+      unfolding isAbove
+      again u = record {
+        set = w .set;
+        fit = w .fit;
+        columns = w .columns;
+        long = w .long;
+        nexts = w .nexts;
+        sum = x-is;
+        slopes = w .slopes;
+        passed =
+            let holds = le-ltb (H (counted t) * at) (HD' k (counted t) at) (omega (arith, x-is, top-is)) in
+            upto-more _ _ at (w .passed) holds none-large;
+        counts = one-more;
+        budgets = omega (arith, w .budgets, w .going);
+        few = omega (arith, w .few, w .later);
+        low = w .low;
+      }

@@ -1,0 +1,165 @@
+-- `superposition_test::walk::walk` meets its contract. Assumes nothing.
+use mathlib.Core.Path.{_≡_, refl, sym, _∙_}
+use native.Mathlib.Omega.{arith}
+use borrow.Author.Needs.{needs}
+use lib.ListN.{length, length-map}
+use Rattle.model.specs.Elements.{places}
+use Rattle.theory.proofs.PlaceLaws.{legal-places}
+use Rattle.load.proofs.ColumnLaws.{Laid, laid}
+use Rattle.load.proofs.LoadedLaws.{demand-at}
+use Rattle.superposition_test.proofs.WalkLaws.{Walking, Turning, start, none-left, spent, movable, turn, too-large, failing, again}
+use Rattle.superposition_test.proofs.walk.walk.Statement.{statement}
+use Rattle.superposition_test.proofs.walk.walk.Tie as tie
+
+abbrev Inv-loop : tie.InvT-loop
+Inv-loop set k h next₀ step cost last rise before₀ scaled₀ slope₀ count₀ left₀ next before scaled slope count left =
+    Walking set k h step cost last rise next before scaled slope count left
+
+abbrev μ-loop : tie.MeasureT-loop
+μ-loop set k h next₀ step cost last rise before₀ scaled₀ slope₀ count₀ left₀ next before scaled slope count left = left
+
+long : (c : tie.Start Inv-loop μ-loop) → length (c .args .set .table) ≡ places
+long c = sym (length-map (c .args .set .table) _) ∙ c .good .0 .1 .1 .1 .0 .1 .0 .1
+
+lay-requires : tie.Need-lay-requires Inv-loop μ-loop
+lay-requires c κs = search needs
+
+-- the columns that `lay` leaves
+columns : (c : tie.After-lay Inv-loop μ-loop) → Laid (c .before .before .before .before .args .set) (c .lay .last .1 .0) (c .lay .last .1 .1 .0) (c .lay .last .1 .1 .1 .0)
+columns c =
+    let s = c .before .before .before .before in
+    let e = c .lay .ensures in
+    laid _ (legal-places _ (long s) (s .pre .legal)) _ _ _ _ _ _ refl refl refl (e .0) (e .1 .0) (e .1 .1)
+
+lay-limits-requires : tie.Need-lay-limits-requires Inv-loop μ-loop
+lay-limits-requires c κs =
+    let p = c .before .before .before .before .before .before .before .pre in
+    (p .legal, ((omega (arith, p .low), omega (arith, p .high)), (omega (arith, p .small), (record { steps = columns (c .before .before .before) .steps }, (refl, refl)))))
+
+budget-requires : tie.Need-budget-requires Inv-loop μ-loop
+budget-requires c κs =
+    let p = c .before .before .before .before .before .before .before .before .pre in
+    (p .legal, (omega (arith, p .low), omega (arith, p .high)))
+
+loop-holds : tie.Need-loop-holds Inv-loop μ-loop
+loop-holds c =
+    let s = c .before .before .before .before .before .before .before .before .before in
+    start _ _ _ (legal-places _ (long s) (s .pre .legal)) (s .pre) _ _ _ _ _ _
+    (columns (c .before .before .before .before .before)) (c .before .lay-limits .ensures) (c .budget .ensures)
+
+least-requires : tie.Need-least-requires Inv-loop μ-loop
+least-requires c κs = omega (arith, c .before .before .loop .inv .set .few)
+
+returns : tie.Need-returns Inv-loop μ-loop
+returns c = none-left _ _ _ (c .before .before .before .before .loop .inv) (rw (c .if1 .taken) at (c .before .least .ensures))
+
+move-on-requires : tie.Need-move-on-requires Inv-loop μ-loop
+move-on-requires c κs =
+    let a = c .before .before .before .before .before in
+    movable _ _ _ (a .before .before .before .before .loop .inv) _ (a .before .least .ensures) (omega (arith, a .if1 .left))
+
+-- every place that has the length has moved on
+turned : (c : tie.After-move-on Inv-loop μ-loop) →
+    let a = c .before .before .before .before .before .before .before in
+    let l = a .before .before .before in
+    let m = l .before .before in
+    let d = m .before .before .before .before in
+    let s = d .before .before .before .before .args in
+    Turning (s .set) (s .k) (s .h) (d .lay .last .1 .1 .0) (d .lay .last .1 .1 .1 .0) (m .lay-limits .last .1 .1 .1 .1 .0) (m .lay-limits .last .1 .1 .1 .1 .1 .0)
+    (c .move-on .last .0) (l .loop .before) (l .loop .scaled) (l .loop .slope) (l .loop .count) (l .loop .left)
+    (a .least .result) (c .move-on .result .cost) (c .move-on .result .rise)
+turned c =
+    let a = c .before .before .before .before .before .before in
+    turn _ _ _ (a .before .before .before .before .loop .inv) _ (a .before .least .ensures) (omega (arith, a .if1 .left))
+    (c .move-on .ensures) (omega (arith, a .before .before .before .loop-test .taken))
+
+sub-add : tie.Need-sub-add Inv-loop μ-loop
+sub-add c = omega (arith, turned c .later)
+
+mul-add : tie.Need-mul-add Inv-loop μ-loop
+mul-add c = omega (arith, turned c .line-small)
+
+mul-add-2 : tie.Need-mul-add-2 Inv-loop μ-loop
+mul-add-2 c = omega (arith, turned c .due-small)
+
+add-add : tie.Need-add-add Inv-loop μ-loop
+add-add c = omega (arith, turned c .line-small, turned c .due-small)
+
+add-requires : tie.Need-add-requires Inv-loop μ-loop
+add-requires c κs = search needs
+
+enum-known-sum : tie.Need-enum-known-sum Inv-loop μ-loop
+enum-known-sum c = search needs
+
+enum-told : tie.Need-enum-told Inv-loop μ-loop
+enum-told c = search needs
+
+returns-2 : tie.Need-returns-2 Inv-loop μ-loop
+returns-2 c =
+    too-large _ _ _ (turned (c .before .before .before)) (sym (c .enum-told .given .1) ∙ c .before .before .add .ensures)
+
+add-count : tie.Need-add-count Inv-loop μ-loop
+add-count c = let w = turned (c .before .before .before .before) in omega (arith, w .few, w .later, w .low, w .due-few)
+
+mul-if2 : tie.Need-mul-if2 Inv-loop μ-loop
+mul-if2 c = omega (arith, turned (c .before .before .before .before) .top-small)
+
+demand-at-requires : tie.Need-demand-at-requires Inv-loop μ-loop
+demand-at-requires c κs = search needs
+
+returns-3 : tie.Need-returns-3 Inv-loop μ-loop
+returns-3 c =
+    let s = c .before .before .before in
+    let w = turned (s .before .before .before) in
+    rw (c .demand-at .ensures ∙ sym (demand-at _ _ (w .fit .legal) (omega (arith, w .low))))
+    (failing _ _ _ (turned (s .before .before .before)) (sym (s .sum .given .1) ∙ s .before .before .add .ensures)
+    (omega (arith, c .before .if2 .taken)))
+
+add-slope : tie.Need-add-slope Inv-loop μ-loop
+add-slope c = omega (arith, turned (c .before .before .before .before .before .before) .slope-small)
+
+sub-left : tie.Need-sub-left Inv-loop μ-loop
+sub-left c = omega (arith, turned (c .before .before .before .before .before .before) .going)
+
+loop-less : tie.Need-loop-less Inv-loop μ-loop
+loop-less c = omega (arith, turned (c .before .before .before .before .before .before) .going)
+
+loop-again : tie.Need-loop-again Inv-loop μ-loop
+loop-again c =
+    let s = c .before .before .before in
+    again _ _ _ (turned (s .before .before .before)) (sym (s .sum .given .1) ∙ s .before .before .add .ensures)
+    (omega (arith, c .before .if2 .left))
+
+returns-4 : tie.Need-returns-4 Inv-loop μ-loop
+returns-4 c = spent _ _ _ (c .before .loop .inv) (omega (arith, c .loop-test .left))
+
+pub walk-spec : {M : Type 1} → statement M
+walk-spec =
+    tie.close
+    (tie.spec
+    Inv-loop
+    μ-loop
+    lay-requires
+    lay-limits-requires
+    budget-requires
+    loop-holds
+    least-requires
+    returns
+    move-on-requires
+    sub-add
+    mul-add
+    mul-add-2
+    add-add
+    add-requires
+    enum-known-sum
+    enum-told
+    returns-2
+    add-count
+    mul-if2
+    demand-at-requires
+    returns-3
+    add-slope
+    sub-left
+    loop-less
+    loop-again
+    returns-4)
