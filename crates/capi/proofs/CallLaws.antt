@@ -8,10 +8,11 @@ use borrow.Author.Tests.{le-leb, lt-leb}
 use Rattle.model.specs.declared.answers.Refusal.{Refusal}
 use Rattle.model.specs.declared.answers.Check.the-variants.{Fine, TurnedAway}
 use Rattle.model.specs.declared.answers.Numbers.{Numbers}
-use Rattle.wire.specs.declared.writing.Written.{Written}
-use Rattle.wire.specs.declared.writing.Written.the-variants.{Refused}
+use Rattle.writer.specs.declared.writing.Written.{Written}
+use Rattle.writer.specs.declared.writing.Written.the-variants.{Refused}
 use Rattle.wire.specs.Reading.{readSet}
-use Rattle.wire.specs.Writing.{over, writeSet, bufferAfter}
+use Rattle.wire.specs.Format.{over}
+use Rattle.writer.specs.Writing.{writeSet, bufferAfter}
 use Rattle.capi.specs.Calls.{six, returned, answerAfter, Ends, rewrite, rewritten, outAfter}
 
 pub six-stores :

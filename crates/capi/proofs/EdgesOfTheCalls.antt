@@ -8,7 +8,7 @@ use Rattle.model.specs.TurnedAway.{unless, checkElement, checkElements, checkSe
 use Rattle.model.specs.Sums.{shows, S7}
 use Rattle.wire.specs.Format.{numberBytes, isKind, bodySize, recordSize, elementOf, startOf, recordOf, recordsOf}
 use Rattle.wire.specs.Reading.{checkRecord, noBytes, checkRecords, elementsIn, readSet}
-use Rattle.wire.specs.Writing.{checkWrite, writeSet, bufferAfter}
+use Rattle.writer.specs.Writing.{checkWrite, writeSet, bufferAfter}
 use Rattle.capi.specs.Calls.{six, returned, answerAfter, rewrite, rewriteNumbers, rewritten, outAfter}
 
 pub answers-at-their-edges :

@@ -7,13 +7,13 @@ use mathlib.Core.Logic.{inr}
 use lib.ListN.{length}
 use Rattle.model.specs.declared.answers.Refusal.{Refusal}
 use Rattle.model.specs.declared.answers.Check.the-variants.{Fine, TurnedAway}
-use Rattle.wire.specs.declared.writing.Written.the-variants.{Bytes, Refused}
+use Rattle.writer.specs.declared.writing.Written.the-variants.{Bytes, Refused}
 use Rattle.wire.specs.Format.{AllBytes}
 use Rattle.wire.specs.Reading.{readSet}
-use Rattle.wire.specs.Writing.{over}
-use Rattle.wire.specs.Outcomes.{HasNoRoom}
-use Rattle.wire.proofs.RoundTrip.{read-has-its-bytes, read-then-write}
-use Rattle.wire.proofs.WriterIsDecided.{set-is-not-written, refused-write-changes-nothing}
+use Rattle.wire.specs.Format.{over}
+use Rattle.writer.specs.Outcomes.{HasNoRoom}
+use Rattle.writer.proofs.RoundTrip.{read-has-its-bytes, read-then-write}
+use Rattle.writer.proofs.WriterIsDecided.{set-is-not-written, refused-write-changes-nothing}
 use Rattle.capi.specs.Calls.{rewrite, rewritten}
 use Rattle.capi.proofs.CallLaws.{read-refused, read-fine}
 

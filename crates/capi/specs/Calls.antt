@@ -8,10 +8,11 @@ use lib.ListN.{length}
 use Rattle.model.specs.declared.answers.Check.{Check}
 use Rattle.model.specs.declared.answers.Check.the-variants.{Fine, TurnedAway}
 use Rattle.model.specs.declared.answers.Numbers.{Numbers}
-use Rattle.wire.specs.declared.writing.Written.{Written}
-use Rattle.wire.specs.declared.writing.Written.the-variants.{Bytes, Refused}
+use Rattle.writer.specs.declared.writing.Written.{Written}
+use Rattle.writer.specs.declared.writing.Written.the-variants.{Bytes, Refused}
 use Rattle.wire.specs.Reading.{readSet}
-use Rattle.wire.specs.Writing.{writtenNumbers, over, writeSet, bufferAfter}
+use Rattle.wire.specs.Format.{over}
+use Rattle.writer.specs.Writing.{writtenNumbers, writeSet, bufferAfter}
 
 -- THE ANSWER: refusal, place, verdict, interval, demand, count
 unfoldable pub six : Numbers → List ℕ

@@ -2,12 +2,12 @@
 ghost use Prim.Native.Nat.{_≤_};
 ghost use mathlib.Core.Path.{_≡_};
 ghost use lib.ListN.{length};
-ghost use Rattle.wire.specs.Writing.{over};
+ghost use Rattle.wire.specs.Format.{over};
 ghost use Rattle.capi.specs.Calls.{six, rewriteNumbers};
 use model::Answer;
 use model::Numbers;
 use model::answers::numbers_of;
-use wire::Written;
+use writer::Written;
 
 // Returns the refusal's number.
 pub(crate) fn put_numbers(answer: &mut [u64], n: Numbers) -> u32

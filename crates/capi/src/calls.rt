@@ -10,9 +10,9 @@ use analysis::exact_of_bytes;
 use analysis::superposition_of_bytes;
 use model::Check;
 use model::answers::numbers_of;
-use wire::Written;
 use wire::read_set;
-use wire::write_set;
+use writer::Written;
+use writer::write_set;
 
 const ANSWER_PLACES: usize = 6;
 

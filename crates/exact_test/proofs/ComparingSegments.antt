@@ -25,8 +25,8 @@ use Rattle.exact_test.specs.declared.segments.Swept.{Swept}
 use Rattle.exact_test.specs.declared.segments.Swept.the-variants.{Clean}
 use Rattle.theory.specs.Comparing.{compared, lengthsBelow}
 use Rattle.theory.specs.Places.{elementAt}
-use Rattle.load.specs.Columns.{mostBound}
-use Rattle.load.proofs.ColumnLaws.{Laid}
+use Rattle.places.specs.Columns.{mostBound}
+use Rattle.places.proofs.ColumnLaws.{Laid}
 use Rattle.exact_test.specs.Segments.{isDate, ticks, IsWord, Marked, Fit, Full, sweepOf, total, Zero}
 use Rattle.theory.proofs.PlaceLaws.{LegalPlaces}
 use Rattle.theory.proofs.ComparingLaws.{Upto, upto-zero, upto-gap, compared-clear}

@@ -11,7 +11,7 @@ use Rattle.model.specs.declared.elements.Period.{Period}
 use Rattle.model.specs.declared.elements.Period.the-variants.{Once, Every}
 use Rattle.model.specs.declared.elements.Element.{Element}
 use Rattle.model.specs.Demand.{f, onDate, isTestOf}
-use Rattle.load.specs.Columns.{mostBound, stepOf}
+use Rattle.places.specs.Columns.{mostBound, stepOf}
 use Rattle.exact_test.specs.Segments.{isDate}
 
 module _ (next step : ℕ) where

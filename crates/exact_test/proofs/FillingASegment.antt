@@ -8,7 +8,7 @@ use lib.ListN.{length, getD, set, length-set}
 use lib.Seq.{getD-set-same, getD-set-other}
 use borrow.Author.Count.{below-more}
 use Rattle.model.specs.Elements.{mostCost, places}
-use Rattle.load.specs.Columns.{mostBound}
+use Rattle.places.specs.Columns.{mostBound}
 use Rattle.exact_test.specs.Segments.{isDate, mostNext, IsWord, part, dueOf, Marked, Added, Fit, Full, Zero}
 use Rattle.exact_test.proofs.DateLaws.{date-shift}
 use Rattle.exact_test.proofs.SegmentLaws.{part-most, part-before, due-none, due-more}

@@ -11,12 +11,12 @@ use borrow.Author.Tests.{lt-ltb, le-ltb}
 use Rattle.model.specs.declared.answers.Verdict.the-variants.{Overrun}
 use Rattle.model.specs.TurnedAway.{isLarge}
 use Rattle.model.proofs.TurnedAwayLaws.{is-large, not-large}
-use Rattle.load.specs.declared.comparing.Sum.the-variants.{Fits, TooLarge as large}
+use Rattle.places.specs.declared.comparing.Sum.the-variants.{Fits, TooLarge as large}
 use Rattle.exact_test.specs.declared.segments.Swept.the-variants.{TooLarge, Late, Clean}
-use Rattle.load.specs.Sums.{sumOf}
+use Rattle.places.specs.Sums.{sumOf}
 use Rattle.theory.specs.Places.{sumTo}
 use Rattle.exact_test.specs.Segments.{isDate, part, dueOf, sweepOf, total, Zero}
-use Rattle.load.proofs.SumLaws.{sum-tells}
+use Rattle.places.proofs.SumLaws.{sum-tells}
 use Rattle.exact_test.proofs.DateLaws.{date-self, date-before}
 
 -- WHAT A PLACE ADDS

@@ -19,8 +19,8 @@ use Rattle.model.proofs.Cases.{test}
 use Rattle.model.proofs.ElementLaws.{Legal, all-legal}
 use Rattle.theory.specs.Growth.{costOf, dueAt}
 use Rattle.theory.specs.Places.{elementAt}
-use Rattle.load.specs.Columns.{mostBound}
-use Rattle.load.proofs.ColumnLaws.{step-within, Laid}
+use Rattle.places.specs.Columns.{mostBound}
+use Rattle.places.proofs.ColumnLaws.{step-within, Laid}
 use Rattle.exact_test.specs.Segments.{isDate, ticks, dueOf, Marked, Fit, Full, total, Zero}
 use Rattle.theory.proofs.PlaceLaws.{LegalPlaces, sum-places, sum-to-same}
 use Rattle.exact_test.proofs.BitLaws.{bit-zero}

@@ -23,7 +23,7 @@ use Rattle.theory.proofs.DemandGrows.{demand-grows}
 use Rattle.exact_test.specs.declared.segments.Swept.{Swept}
 use Rattle.exact_test.specs.declared.segments.Swept.the-variants.{TooLarge, Late, Clean}
 use Rattle.theory.specs.Comparing.{refusedBy, compared, lengthsBelow}
-use Rattle.load.specs.Columns.{mostBound}
+use Rattle.places.specs.Columns.{mostBound}
 use Rattle.exact_test.specs.Segments.{sweepOf}
 use Rattle.theory.proofs.ComparingLaws.{Upto, upto-gap, upto-more, compared-large, compared-failing}
 use Rattle.exact_test.proofs.SegmentLaws.{sweep-clean}

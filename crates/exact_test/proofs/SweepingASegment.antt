@@ -9,9 +9,9 @@ use lib.Count.{trailingZeros}
 use lib.ListN.{length, getD, set, length-set, List·getD-eq-default}
 use lib.Seq.{getD-set-same, getD-set-other}
 use Rattle.model.specs.declared.answers.Verdict.the-variants.{Overrun}
-use Rattle.load.specs.declared.comparing.Sum.the-variants.{Fits, TooLarge as large}
+use Rattle.places.specs.declared.comparing.Sum.the-variants.{Fits, TooLarge as large}
 use Rattle.exact_test.specs.declared.segments.Swept.the-variants.{TooLarge, Late, Clean}
-use Rattle.load.specs.Sums.{sumOf}
+use Rattle.places.specs.Sums.{sumOf}
 use Rattle.exact_test.specs.Segments.{ticks, IsWord, bit, sign, Marked, sweepOf, total, Zero}
 use Rattle.exact_test.proofs.BitLaws.{bit-zero, zeros-below, zeros-lt, zeros-at, cleared, clear-keep, clear-at, clear-lt, some-sign, none-sign}
 use Rattle.exact_test.proofs.SegmentLaws.{IsFirst, total-taken, sweep-clean, sweep-large, sweep-late, sweep-next}

@@ -11,7 +11,7 @@ use Rattle.model.specs.TurnedAway.{isLarge}
 use Rattle.exact_test.specs.declared.segments.Swept.{Swept}
 use Rattle.exact_test.specs.declared.segments.Swept.the-variants.{TooLarge, Late, Clean}
 use Rattle.theory.specs.Places.{sumTo}
-use Rattle.load.specs.Columns.{mostBound}
+use Rattle.places.specs.Columns.{mostBound}
 
 -- a segment has so many lengths at most, an entry for each
 abbrev pub ticks : ℕ

@@ -6,20 +6,20 @@ ghost use Rattle.model.specs.Elements.{counted, isLegalSet};
 ghost use Rattle.model.specs.TurnedAway.{isLargeAt};
 ghost use Rattle.model.specs.declared.answers.Verdict.the-variants.{Overrun};
 ghost use Rattle.theory.specs.Comparing.{compared, lengthsBelow};
-ghost use Rattle.load.specs.Columns.{mostBound};
+ghost use Rattle.places.specs.Columns.{mostBound};
 ghost use Rattle.exact_test.specs.Segments.{ticks};
 use crate::segments::Swept;
 use crate::segments::TICKS;
 use crate::segments::WORDS;
 use crate::segments::fill;
 use crate::segments::sweep;
-use load::places::NONE_LEFT;
-use load::places::lay;
 use model::Answer;
 use model::Refusal;
 use model::TaskSet;
 use model::Verdict;
 use model::elements::PLACES;
+use places::columns::NONE_LEFT;
+use places::columns::lay;
 
 // How many lengths from base on, and below the bound, a segment takes.
 fn segment(base: u64, bound: u64) -> u64

@@ -3,13 +3,13 @@
 ghost use mathlib.Core.Path.{_≡_};
 ghost use Prim.Native.Nat.{ℕ, _+_, _≤_};
 ghost use lib.ListN.{getD};
-ghost use Rattle.load.specs.Columns.{mostBound};
+ghost use Rattle.places.specs.Columns.{mostBound};
 ghost use Rattle.exact_test.specs.Segments.{ticks, mostNext, IsWord, Marked, Added, Fit, Full, Zero, Left, sweepOf, total};
-use load::comparing::LARGEST;
-use load::comparing::Sum;
-use load::comparing::add;
 use model::Verdict;
 use model::elements::PLACES;
+use places::comparing::LARGEST;
+use places::comparing::Sum;
+use places::comparing::add;
 
 // The ticks of a segment, and the words that have a bit for each.
 pub(crate) const TICKS: usize = 4096;

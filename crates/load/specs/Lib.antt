@@ -1,3 +1,1 @@
 pub mod Load
-pub mod Columns
-pub mod Sums

@@ -8,7 +8,7 @@ use Rattle.model.specs.declared.answers.Answer.{Answer}
 use Rattle.model.specs.declared.answers.Answer.the-variants.{Refused, Given}
 use Rattle.model.specs.Answers.{values}
 use Rattle.model.specs.Number.{least}
-use Rattle.wire.specs.Writing.{over}
+use Rattle.wire.specs.Format.{over}
 use Rattle.io.specs.Counts.{Counts}
 use Rattle.io.proofs.Counting.{counts}
 use Rattle.printer.specs.Text.{decimal, exactName, kName}

@@ -19,7 +19,7 @@ use Rattle.model.specs.Answers.{values}
 use Rattle.model.specs.Number.{least}
 use Rattle.model.proofs.Cases.{lt-or-le}
 use Rattle.model.proofs.NumberLaws.{IsFirst, least-most, least-at}
-use Rattle.wire.specs.Writing.{over}
+use Rattle.wire.specs.Format.{over}
 use Rattle.model.proofs.StoreLaws.{two-runs}
 use Rattle.printer.specs.Text.{decimal, field, newline, line, refusedLine}
 use Rattle.printer.specs.Putting.{Puts}

@@ -3,7 +3,7 @@ ghost use Prim.Native.Nat.{_≤_};
 ghost use mathlib.Core.Path.{_≡_};
 ghost use lib.ListN.{length};
 ghost use Rattle.model.specs.Answers.{values};
-ghost use Rattle.wire.specs.Writing.{over};
+ghost use Rattle.wire.specs.Format.{over};
 ghost use Rattle.printer.specs.Putting.{Puts};
 ghost use Rattle.printer.specs.Printed.{lines, printedOf, printed};
 use crate::text::put_line;

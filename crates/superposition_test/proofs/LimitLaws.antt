@@ -18,7 +18,7 @@ use Rattle.theory.specs.Approximation.{lengthsOf, budget}
 use Rattle.theory.specs.Growth.{riseOf}
 use Rattle.theory.specs.Places.{elementAt}
 use Rattle.theory.specs.Sizes.{mostLength}
-use Rattle.load.specs.Columns.{stepOf, stepIn}
+use Rattle.places.specs.Columns.{stepOf, stepIn}
 use Rattle.superposition_test.specs.Walk.{Limited}
 use Rattle.theory.proofs.PlaceLaws.{LegalPlaces, column}
 

@@ -17,7 +17,7 @@ use Rattle.model.proofs.ElementLaws.{Runs, Legal}
 use Rattle.theory.specs.TestLengths.{IsDate}
 use Rattle.theory.specs.Growth.{isVisitedBy, isLastBy}
 use Rattle.theory.proofs.DemandLaws.{date-from, test-of}
-use Rattle.load.specs.Columns.{stepOf}
+use Rattle.places.specs.Columns.{stepOf}
 use Rattle.superposition_test.specs.Walk.{none, onFrom, riseFrom}
 
 no-rise : (b : Bool) → _≡_ {A = ℕ} (cond b 0 0) 0

@@ -19,7 +19,7 @@ use Rattle.model.proofs.ElementLaws.{counted-long, counted-at}
 use Rattle.theory.specs.Growth.{costOf, isVisitedBy, visitedDueAt, isLastBy, riseOf}
 use Rattle.superposition_test.specs.declared.walk.Moved.{Moved}
 use Rattle.theory.specs.Places.{elementAt, sumTo}
-use Rattle.load.specs.Columns.{stepOf}
+use Rattle.places.specs.Columns.{stepOf}
 use Rattle.theory.specs.Sizes.{mostLength}
 use Rattle.superposition_test.specs.Walk.{none, Least, MovedOn}
 use Rattle.theory.proofs.PlaceLaws.{LegalPlaces, sum-places, sum-to-same}

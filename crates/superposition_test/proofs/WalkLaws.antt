@@ -30,18 +30,18 @@ use Rattle.theory.proofs.ScaledDemandGrows.{scaled-grows, slope-grows, scaled-r
 use Rattle.theory.proofs.SuperpositionAnswers.{visited-below}
 use Rattle.theory.proofs.SuperpositionIsSafe.{scaled-starts}
 use Rattle.theory.proofs.SuperpositionIsShort.{visits-at-most}
-use Rattle.load.specs.declared.comparing.Sum.the-variants as sum
+use Rattle.places.specs.declared.comparing.Sum.the-variants as sum
 use Rattle.superposition_test.specs.declared.walk.Moved.{Moved}
-use Rattle.load.specs.Sums.{sumOf}
+use Rattle.places.specs.Sums.{sumOf}
 use Rattle.theory.specs.Comparing.{refusedBy, compared, isLargeWith}
 use Rattle.theory.specs.Places.{elementAt}
-use Rattle.load.proofs.ColumnLaws.{Laid}
+use Rattle.places.proofs.ColumnLaws.{Laid}
 use Rattle.theory.specs.Sizes.{mostLength}
 use Rattle.superposition_test.specs.Walk.{none, Fit, Least, Limited, Movable, MovedOn}
 use Rattle.theory.proofs.PlaceLaws.{LegalPlaces}
-use Rattle.load.proofs.SumLaws.{sum-tells}
+use Rattle.places.proofs.SumLaws.{sum-tells}
 use Rattle.theory.proofs.ComparingLaws.{Upto, upto-zero, upto-gap, upto-more, compared-large, compared-failing, compared-clear}
-use Rattle.load.proofs.ColumnLaws.{step-within}
+use Rattle.places.proofs.ColumnLaws.{step-within}
 use Rattle.theory.proofs.LoadLaws.{rise-most}
 use Rattle.theory.proofs.SizeLaws.{demand-small}
 use Rattle.superposition_test.proofs.NextLaws.{not-at-zero, next-start}

@@ -12,7 +12,7 @@ use Rattle.model.specs.Superposition.{m}
 use Rattle.theory.specs.Growth.{riseOf}
 use Rattle.superposition_test.specs.declared.walk.Moved.{Moved}
 use Rattle.theory.specs.Places.{elementAt, sumTo}
-use Rattle.load.specs.Columns.{mostBound, stepIn}
+use Rattle.places.specs.Columns.{mostBound, stepIn}
 use Rattle.theory.specs.Sizes.{mostLength}
 
 -- "none left"

@@ -9,11 +9,7 @@ ghost use Rattle.model.specs.Superposition.{m, superpositionLengths};
 ghost use Rattle.theory.specs.Approximation.{lengthsOf, budget as the-budget};
 ghost use Rattle.theory.specs.Comparing.{compared, isLargeWith};
 ghost use Rattle.superposition_test.specs.Walk.{Least, Stepped, Limited, Movable, MovedOn, Fit};
-use load::comparing::Sum;
-use load::comparing::add;
 use load::demand_at;
-use load::places::NONE_LEFT;
-use load::places::lay;
 use model::Answer;
 use model::Element;
 use model::Period;
@@ -21,6 +17,10 @@ use model::Refusal;
 use model::TaskSet;
 use model::Verdict;
 use model::elements::PLACES;
+use places::columns::NONE_LEFT;
+use places::columns::lay;
+use places::comparing::Sum;
+use places::comparing::add;
 
 // The least of the first next lengths, none left where there is none.
 fn least(next: &[u64; PLACES], count: usize) -> u64

@@ -1,14 +1,10 @@
 pub mod FormatLaws
 pub mod ReadingLaws
 pub mod ReadingASet
-pub mod WritingLaws
-pub mod WritingASet
 pub mod RecordLaws
 pub mod Splitting
 pub mod RowLaws
 pub mod RecordIsDecided
 pub mod ReaderIsDecided
-pub mod WriterIsDecided
-pub mod RoundTrip
 pub mod EdgesOfTheFormat
 pub mod Outcomes

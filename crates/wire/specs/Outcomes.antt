@@ -1,16 +1,13 @@
--- Words of the theorems about reading and writing: the rows of document 01's table, bytes that are a set or are refused, sets that are not written.
+-- Words of the theorems about reading: the rows of document 01's table, bytes that are a set or are refused.
 use Prim.Native.Nat.{ℕ, _≤_, _<_}
 use mathlib.Core.Path.{_≡_}
 use mathlib.Core.Bool.{Bool, true, false}
 use mathlib.Core.List.{List, [], _∷_, _++_}
-use mathlib.Core.Logic.{_⊎_}
 use lib.Dec.{leb, ltb}
-use lib.ListN.{length, take, getD}
+use lib.ListN.{length, getD}
 use Rattle.model.specs.declared.elements.Element.{Element}
-use Rattle.model.specs.declared.elements.TaskSet.{TaskSet}
-use Rattle.model.specs.Elements.{places, isPeriod, isOffset, isDeadline, isCost, AllLegal, filler, counted, isLegalSet}
+use Rattle.model.specs.Elements.{places, isPeriod, isOffset, isDeadline, isCost, AllLegal}
 use Rattle.wire.specs.Format.{kindOf, isKind, recordSize, elementOf, recordsOf}
-use Rattle.wire.specs.Writing.{bytesOf}
 
 -- THE ROWS of "What is turned away": whether each lets pass
 -- 4 to 7: "period", "offset", "deadline", "cost out of range"
@@ -54,27 +51,3 @@ pub record AreRefused (s : List ℕ) (number place : ℕ) : Type 0 where
   pub more : 1 ≤ length from
   pub at : place ≡ length (recordsOf before)
   pub row : IsFirst (rows before from) number
-
--- A SET THAT IS NOT WRITTEN, by this number at this place
--- "a count above 128 by 3 with place 128"
-pub record HasTooMany (t : TaskSet) (number place : ℕ) : Type 0 where
-  pub many : places < t .count
-  pub by : number ≡ 3
-  pub at : place ≡ places
-
--- "then bad values by 4 to 7 with the element's place in the table, element by element"
-pub record HasBadValue (t : TaskSet) (number place : ℕ) : Type 0 where
-  pub few : t .count ≤ places
-  pub counts : place < length (counted t)
-  pub before : AllLegal (take place (counted t))
-  pub row : IsFirst (elementRows (getD (counted t) place filler)) number
-
--- "then 10"
-pub record HasNoRoom (t : TaskSet) (room number place : ℕ) : Type 0 where
-  pub legal : isLegalSet t ≡ true
-  pub by : number ≡ 10
-  pub at : place ≡ length (bytesOf t)
-  pub short : room < place
-
-abbrev pub IsNotWritten : TaskSet → ℕ → ℕ → ℕ → Type 0
-IsNotWritten t room number place = HasTooMany t number place ⊎ (HasBadValue t number place ⊎ HasNoRoom t room number place)

@@ -2,8 +2,7 @@
 ghost use mathlib.Core.Path.{_≡_};
 ghost use Prim.Native.Nat.{_+_, _≤_, _<_};
 ghost use lib.ListN.{length};
-ghost use lib.Seq.{sets};
-ghost use Rattle.wire.specs.Format.{numberAt, numberBytes};
+ghost use Rattle.wire.specs.Format.{numberAt};
 
 fn wide(byte: u8) -> u32
     ensures { λ r. ⌜ (r ≡ byte) × (r < 256) ⌝ }
@@ -20,14 +19,4 @@ pub(crate) fn number_at(bytes: &[u8], at: usize) -> u32
     let c = wide(bytes[at + 2]);
     let d = wide(bytes[at + 3]);
     a + b * 256 + c * 65536 + d * 16777216
-}
-
-pub(crate) fn put_number(out: &mut [u8], at: usize, x: u32)
-    requires { ⌜ at + 4 ≤ length (now out) ⌝ }
-    ensures { λ _. ⌜ now (out .exit) ≡ sets (now (out .entry)) at (numberBytes x) ⌝ }
-{
-    out[at] = (x % 256) as u8;
-    out[at + 1] = (x / 256 % 256) as u8;
-    out[at + 2] = (x / 65536 % 256) as u8;
-    out[at + 3] = (x / 16777216 % 256) as u8;
 }

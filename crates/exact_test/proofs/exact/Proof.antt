@@ -8,7 +8,7 @@ use Rattle.theory.proofs.SizeLaws.{first-small}
 use Rattle.theory.proofs.TakenSetsAreLegal.{fine-is-legal}
 use Rattle.theory.proofs.AnswerLaws.{exact-refused, exact-overload, exact-compared}
 use Rattle.load.specs.declared.overload.Loaded.the-variants.{AtMostOne}
-use Rattle.load.specs.Columns.{mostBound}
+use Rattle.places.specs.Columns.{mostBound}
 use Rattle.load.proofs.LoadedLaws.{Goes, load-tells}
 use Rattle.exact_test.proofs.exact.Statement.{statement}
 use Rattle.exact_test.proofs.exact.Tie as tie

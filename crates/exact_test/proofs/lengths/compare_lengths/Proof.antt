@@ -7,7 +7,7 @@ use borrow.Author.Needs.{needs}
 use Rattle.model.specs.Elements.{places, counted}
 use Rattle.exact_test.specs.declared.segments.Swept.{Swept}
 use Rattle.theory.proofs.PlaceLaws.{legal-places}
-use Rattle.load.proofs.ColumnLaws.{laid}
+use Rattle.places.proofs.ColumnLaws.{laid}
 use Rattle.exact_test.proofs.SweepMeetsTest.{Met}
 use Rattle.exact_test.proofs.ComparingSegments.{Stage, start, end, sweep-fits, swept, next-stage}
 use Rattle.exact_test.proofs.lengths.compare_lengths.Statement.{statement}

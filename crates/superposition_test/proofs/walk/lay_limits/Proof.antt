@@ -8,7 +8,7 @@ use Rattle.theory.specs.Growth.{riseOf}
 use Rattle.theory.specs.Places.{elementAt}
 use Rattle.theory.proofs.PlaceLaws.{legal-places}
 use Rattle.theory.proofs.LoadLaws.{rise-most}
-use Rattle.load.proofs.ColumnLaws.{step-within}
+use Rattle.places.proofs.ColumnLaws.{step-within}
 use Rattle.superposition_test.proofs.LimitLaws.{rise-by-step, Limiting, start, end, next}
 use Rattle.superposition_test.proofs.walk.lay_limits.Statement.{statement}
 use Rattle.superposition_test.proofs.walk.lay_limits.Tie as tie

@@ -5,7 +5,7 @@ use borrow.Author.Needs.{needs}
 use lib.ListN.{length, length-map}
 use Rattle.model.specs.Elements.{places}
 use Rattle.theory.proofs.PlaceLaws.{legal-places}
-use Rattle.load.proofs.ColumnLaws.{Laid, laid}
+use Rattle.places.proofs.ColumnLaws.{Laid, laid}
 use Rattle.load.proofs.LoadedLaws.{demand-at}
 use Rattle.superposition_test.proofs.WalkLaws.{Walking, Turning, start, none-left, spent, movable, turn, too-large, failing, again}
 use Rattle.superposition_test.proofs.walk.walk.Statement.{statement}

@@ -1,0 +1,6 @@
+pub mod WritingLaws
+pub mod WritingASet
+pub mod WriterIsDecided
+pub mod RoundTrip
+pub mod EdgesOfTheWriter
+pub mod Outcomes
