@@ -10,10 +10,12 @@ use lib.ListN.{length, drop, set, replicate, length-append, length-drop}
 use lib.Seq.{set-append-seam}
 use Rattle.model.specs.declared.elements.Element.{Element}
 use Rattle.model.specs.declared.elements.TaskSet.{TaskSet}
-use Rattle.model.specs.declared.answers.Check.the-variants.{Fine}
+use Rattle.model.specs.declared.answers.Refusal.{Refusal}
+use Rattle.model.specs.declared.answers.Check.the-variants.{Fine, TurnedAway}
 use Rattle.model.specs.Elements.{places, filler, setOf, emptySet}
 use Rattle.wire.specs.declared.records.Record.{Record}
 use Rattle.wire.specs.declared.records.Record.the-variants as answer
+use Rattle.wire.specs.declared.reading.ReadSet.{ReadSet}
 use Rattle.wire.specs.Format.{recordSize, elementOf}
 use Rattle.wire.specs.Reading.{checkOf, readNext, restOf, checkRecords, elementsIn, handedBack, readSet}
 use Rattle.wire.proofs.records.Record.{the-type}
@@ -102,6 +104,9 @@ module _ (s : List ℕ) (t : TaskSet) (left : List ℕ) (k : Reading s t left) w
 
     pub less : length (restOf left) < length left
     less = rw (rest-is, length-drop) (omega (arith, found .0 .whole, some-size left))
+
+pub handed-empty : (r : Refusal) (t u : TaskSet) → t ≡ emptySet → _≡_ {A = ReadSet} (record { check = TurnedAway r; set = t }) (handedBack (TurnedAway r) u)
+handed-empty r t u e = rw e
 
 pub handed-whole : (r : Record) (t : TaskSet) → OneOf (0 ∷ 2 ∷ []) (tagOf the-type r) → handedBack Fine t ≡ handedBack (checkOf r) t
 handed-whole (answer.Element e) t o = refl

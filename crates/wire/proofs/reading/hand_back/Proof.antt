@@ -1,6 +1,6 @@
 -- `wire::reading::hand_back` meets its contract. Assumes nothing.
 use borrow.Author.Needs.{needs}
-use Rattle.wire.proofs.ReadingASet.{handed-whole}
+use Rattle.wire.proofs.ReadingASet.{handed-empty, handed-whole}
 use Rattle.wire.proofs.reading.hand_back.Statement.{statement}
 use Rattle.wire.proofs.reading.hand_back.Tie as tie
 
@@ -11,7 +11,7 @@ empty-set-requires : tie.Need-empty-set-requires
 empty-set-requires c κs = search needs
 
 returns : tie.Need-returns
-returns c = rw (c .before .before .found .given .1, c .empty-set .ensures)
+returns c = rw (c .before .before .found .given .1) (handed-empty (c .before .before .found .given .0 .0) (c .empty-set .result) (c .before .before .before .before .args .set) (c .empty-set .ensures))
 
 returns-2 : tie.Need-returns-2
 returns-2 c = handed-whole (c .before .args .found) _ (c .match .keys2)
