@@ -67,12 +67,6 @@ void cut_to(size_t size)
     current()->size = size;
 }
 
-void drop_current(void)
-{
-    cut_to(0);
-    made--;
-}
-
 void put_again(size_t number, enum group group)
 {
     begin(group);

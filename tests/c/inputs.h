@@ -51,9 +51,6 @@ uint8_t *current_bytes(void);
 /* Keeps its first so many bytes. */
 void cut_to(size_t size);
 
-/* Takes it back. */
-void drop_current(void);
-
 /* The bytes of an input made before, once more. */
 void put_again(size_t number, enum group group);
 

@@ -1,6 +1,5 @@
 #include "groups.h"
 #include "inputs.h"
-#include "oracle.h"
 
 #define MOST 16777216u
 
@@ -10,7 +9,7 @@ const uint32_t edges[EDGES] = {0, 1, 2, MOST - 1, MOST, MOST + 1, 2147483648u, U
 
 enum { ALONE, BETWEEN, LAST, STANDS };
 
-/* An element of these values: alone, between two others, or after them. Left out where the oracle would take long. */
+/* An element of these values: alone, between two others, or after them. */
 static void make_element(int kind, const uint32_t *v, int stands)
 {
     begin(LIMITS);
@@ -24,11 +23,10 @@ static void make_element(int kind, const uint32_t *v, int stands)
         once(v[1], v[2], v[3]);
     if (stands == BETWEEN)
         once(5, 9, 2);
-    if (oracle_is_slow(current()->bytes, current()->size))
-        drop_current();
 }
 
-/* One value at an edge, the others small or at their most; all at their most are among the copies below. */
+/* One value at an edge, the others small or at their most. Left out is a period just below its most beside a cost at its
+   most: the load is so little above one that the oracle would need 2^24 steps to show it. */
 static void make_value_limits(int kind, int value, uint32_t edge)
 {
     for (int stands = ALONE; stands < STANDS; stands++) {
@@ -36,8 +34,17 @@ static void make_value_limits(int kind, int value, uint32_t edge)
         with_small[value] = edge;
         with_most[value] = edge;
         make_element(kind, with_small, stands);
-        if (edge != MOST)
+        if (edge != MOST && (value > 0 || edge != MOST - 1))
             make_element(kind, with_most, stands);
+    }
+}
+
+static void make_all_at_their_most(void)
+{
+    static const uint32_t most[4] = {MOST, MOST, MOST, MOST};
+    for (int stands = ALONE; stands < STANDS; stands++) {
+        make_element(PERIODIC, most, stands);
+        make_element(SINGLE, most, stands);
     }
 }
 
@@ -158,6 +165,7 @@ static void make_all_values(void)
             if (value > 0)
                 make_value_limits(SINGLE, value, edges[edge]);
         }
+    make_all_at_their_most();
 }
 
 static void make_all_counts(void)

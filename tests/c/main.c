@@ -24,7 +24,7 @@ static int check_group(enum group group, const char *name, struct tally *tally)
     put_text(" inputs");
     put_wide_number(tally->calls - calls, 9);
     put_text(" calls");
-    put_wide_number(tally->differ - differ, 7);
+    put_wide_number(tally->differ - differ, 9);
     put_text(" differ\n");
     return inputs > 0;
 }
