@@ -9,24 +9,24 @@ enum group { SUMS, LIMITS, LEGAL, DAMAGED, GENERATED, FLIGHT_CONTROL, OLYMPUS, E
 enum { MOST_INPUT_BYTES = 4096 };
 enum { PERIODIC = 1, SINGLE = 2 };
 
-/* What a document prints of an answer: the first so many of its six numbers. The exact test stands in the place of k. */
-enum { EXACT_TEST = 0 };
+/* What a document prints of an answer: the first so many of its six numbers. k is EXACT_TEST for the exact test. */
 struct printed {
     uint32_t k;
     size_t given;
     uint64_t numbers[6];
 };
+enum { EXACT_TEST = 0 };
 
-/* Of an input are printed so many answers, or those up to the first of which nothing is given. */
+/* The answers printed of an input: so many, or those ahead of the first of which nothing is given. */
 enum { MOST_PRINTED = 4 };
 
 struct input {
     enum group group;
     const uint8_t *bytes;
     size_t size;
-    /* Of a generated input the k drawn with it. */
+    /* A generated input has a k drawn with it. */
     uint32_t k;
-    /* Of an input of which answers are printed its name, and they. */
+    /* An input of which answers are printed has them, and a name. */
     const char *name;
     const struct printed *printed;
 };

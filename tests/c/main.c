@@ -142,8 +142,15 @@ static void put_total(const struct tally *tally)
 int main(int count, char **words)
 {
     static const char *const groups[GROUPS] = {
-        "sums          ", "limits        ", "legal         ", "damaged       ", "generated     ",
-        "flight control", "olympus       ", "examples      ", "all places    ",
+        [SUMS] = "sums          ",
+        [LIMITS] = "limits        ",
+        [LEGAL] = "legal         ",
+        [DAMAGED] = "damaged       ",
+        [GENERATED] = "generated     ",
+        [FLIGHT_CONTROL] = "flight control",
+        [OLYMPUS] = "Olympus       ",
+        [EXAMPLES] = "examples      ",
+        [ALL_PLACES] = "all places    ",
     };
     struct tally tally = {0};
     int fine;
