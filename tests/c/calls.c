@@ -208,6 +208,24 @@ static void check_superposition(const struct trial *trial, uint32_t k)
     check_places(trial, call);
 }
 
+/* A generated input brings one k; the others get many, the edges of k among them. */
+static void check_superpositions(const struct trial *trial)
+{
+    static const uint32_t few_k[] = {0, 3, 256, UINT32_MAX}, more_k[] = {7, 100, 255};
+    const struct input *input = trial->input;
+    check_superposition(trial, 1);
+    check_superposition(trial, 2);
+    if (input->group == GENERATED) {
+        check_superposition(trial, input->k);
+        return;
+    }
+    for (size_t i = 0; i < sizeof few_k / sizeof few_k[0]; i++)
+        check_superposition(trial, few_k[i]);
+    for (size_t i = 0; i < sizeof more_k / sizeof more_k[0]; i++)
+        if (input->size < MANY_BYTES || (input->group != LEGAL && input->group != DAMAGED))
+            check_superposition(trial, more_k[i]);
+}
+
 static void check_rewrite(const struct trial *trial, size_t room)
 {
     struct call call = {.which = REWRITE, .room = room};
@@ -217,15 +235,10 @@ static void check_rewrite(const struct trial *trial, size_t room)
 
 void check_input(const struct input *input, const struct interface *called, struct tally *tally)
 {
-    static const uint32_t few_k[] = {0, 1, 2, 3, 256, UINT32_MAX}, more_k[] = {7, 100, 255};
     struct trial trial = {input, called, tally};
     struct call exact = {.which = EXACT, .expected = oracle_exact(input->bytes, input->size)};
     check_places(&trial, exact);
-    for (size_t i = 0; i < sizeof few_k / sizeof few_k[0]; i++)
-        check_superposition(&trial, few_k[i]);
-    for (size_t i = 0; i < sizeof more_k / sizeof more_k[0]; i++)
-        if (input->size < MANY_BYTES || (input->group != LEGAL && input->group != DAMAGED))
-            check_superposition(&trial, more_k[i]);
+    check_superpositions(&trial);
     check_rewrite(&trial, input->size);
     check_rewrite(&trial, input->size + MORE_ROOM);
     check_rewrite(&trial, 0);

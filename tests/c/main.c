@@ -1,8 +1,9 @@
 /* The C interface against the oracle, on the files named and on the inputs made here. */
 #include "calls.h"
 #include "faults.h"
+#include "groups.h"
+#include "printed.h"
 #include "simaurkoi.h"
-#include "sums.h"
 #include "text.h"
 
 enum { LAST_REACHED_REFUSAL = 10 };
@@ -23,7 +24,7 @@ static int check_group(enum group group, const char *name, struct tally *tally)
     put_text(" inputs");
     put_wide_number(tally->calls - calls, 9);
     put_text(" calls");
-    put_wide_number(tally->differ - differ, 7);
+    put_wide_number(tally->differ - differ, 9);
     put_text(" differ\n");
     return inputs > 0;
 }
@@ -69,8 +70,7 @@ static int is_seen(size_t fault)
     struct tally tally = {.quiet = 1};
     const struct interface *called = with_fault(fault);
     for (size_t i = 0; i < inputs_made() && tally.differ == 0; i++)
-        if (input_at(i)->group != EXAMPLES)
-            check_input(input_at(i), called, &tally);
+        check_input(input_at(i), called, &tally);
     return tally.differ > 0;
 }
 
@@ -105,6 +105,30 @@ static int make_examples(int count, char **names)
     return 1;
 }
 
+/* The examples last, since the oracle takes longest for them. */
+static int make_inputs(int count, char **names)
+{
+    make_sums();
+    make_limits();
+    make_legal();
+    make_damaged();
+    make_generated();
+    make_all_places();
+    return make_examples(count, names);
+}
+
+static int check_printed(void)
+{
+    struct held held = hold_to_printed(&archive);
+    put_number(held.answers);
+    put_text(" answers that documents print: in ");
+    put_number(held.oracle_differs);
+    put_text(" the oracle differs, in ");
+    put_number(held.called_differs);
+    put_text(" the archive\n");
+    return held.oracle_differs == 0 && held.called_differs == 0;
+}
+
 static void put_total(const struct tally *tally)
 {
     put_number(inputs_made());
@@ -117,12 +141,22 @@ static void put_total(const struct tally *tally)
 
 int main(int count, char **words)
 {
-    static const char *const groups[GROUPS] = {"sums    ", "examples", "limits  ", "legal   ", "damaged ", "places  "};
+    static const char *const groups[GROUPS] = {
+        [SUMS] = "sums          ",
+        [LIMITS] = "limits        ",
+        [LEGAL] = "legal         ",
+        [DAMAGED] = "damaged       ",
+        [GENERATED] = "generated     ",
+        [FLIGHT_CONTROL] = "flight control",
+        [OLYMPUS] = "Olympus       ",
+        [EXAMPLES] = "examples      ",
+        [ALL_PLACES] = "all places    ",
+    };
     struct tally tally = {0};
-    int fine = 1;
-    if (!make_examples(count - 1, words + 1) || sums_that_differ() > 0)
+    int fine;
+    if (!make_inputs(count - 1, words + 1))
         return 1;
-    make_inputs();
+    fine = check_printed();
     for (int group = 0; group < GROUPS; group++)
         fine &= check_group((enum group)group, groups[group], &tally);
     put_tally(&tally);
