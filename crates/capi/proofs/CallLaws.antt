@@ -11,7 +11,7 @@ use Rattle.model.specs.declared.answers.Numbers.{Numbers}
 use Rattle.writer.specs.declared.writing.Written.{Written}
 use Rattle.writer.specs.declared.writing.Written.the-variants.{Refused}
 use Rattle.wire.specs.Reading.{readSet}
-use Rattle.wire.specs.Format.{over}
+use Rattle.model.specs.Buffers.{over}
 use Rattle.writer.specs.Writing.{writeSet, bufferAfter}
 use Rattle.capi.specs.Calls.{six, returned, answerAfter, Ends, rewrite, rewritten, outAfter}
 

@@ -10,7 +10,7 @@ use Rattle.model.specs.declared.answers.Check.the-variants.{Fine, TurnedAway}
 use Rattle.writer.specs.declared.writing.Written.the-variants.{Bytes, Refused}
 use Rattle.wire.specs.Format.{AllBytes}
 use Rattle.wire.specs.Reading.{readSet}
-use Rattle.wire.specs.Format.{over}
+use Rattle.model.specs.Buffers.{over}
 use Rattle.writer.specs.Outcomes.{HasNoRoom}
 use Rattle.writer.proofs.RoundTrip.{read-has-its-bytes, read-then-write}
 use Rattle.writer.proofs.WriterIsDecided.{set-is-not-written, refused-write-changes-nothing}

@@ -11,7 +11,7 @@ use Rattle.model.specs.declared.answers.Numbers.{Numbers}
 use Rattle.writer.specs.declared.writing.Written.{Written}
 use Rattle.writer.specs.declared.writing.Written.the-variants.{Bytes, Refused}
 use Rattle.wire.specs.Reading.{readSet}
-use Rattle.wire.specs.Format.{over}
+use Rattle.model.specs.Buffers.{over}
 use Rattle.writer.specs.Writing.{writtenNumbers, writeSet, bufferAfter}
 
 -- THE ANSWER: refusal, place, verdict, interval, demand, count

@@ -2,7 +2,7 @@
 ghost use Prim.Native.Nat.{_≤_};
 ghost use mathlib.Core.Path.{_≡_};
 ghost use lib.ListN.{length};
-ghost use Rattle.wire.specs.Format.{over};
+ghost use Rattle.model.specs.Buffers.{over};
 ghost use Rattle.capi.specs.Calls.{six, rewriteNumbers};
 use model::Answer;
 use model::Numbers;

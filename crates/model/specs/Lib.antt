@@ -3,6 +3,7 @@ pub mod Over
 pub mod Elements
 pub mod Demand
 pub mod Answers
+pub mod Buffers
 pub mod ExactTest
 pub mod Superposition
 pub mod TurnedAway

@@ -1,4 +1,3 @@
-pub mod TextLaws
 pub mod PrintedLaws
 pub mod Outcomes
 pub mod Printout

@@ -3,7 +3,7 @@ use Prim.Native.Nat.{ℕ}
 use mathlib.Core.Path.{_≡_, sym, _∙_}
 use mathlib.Core.List.{List}
 use lib.ListN.{length}
-use Rattle.wire.specs.Format.{over}
+use Rattle.model.specs.Buffers.{over}
 use Rattle.printer.specs.Printed.{printed}
 
 pub verdicts-are-decided :

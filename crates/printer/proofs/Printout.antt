@@ -13,8 +13,9 @@ use Rattle.model.specs.TurnedAway.{unless, checkElement, firstAbove, checkH, ch
 use Rattle.wire.specs.Format.{numberBytes, isKind, bodySize, recordSize, elementOf, startOf, recordOf, recordsOf}
 use Rattle.wire.specs.Reading.{checkRecord, noBytes, checkRecords, elementsIn}
 use Rattle.analysis.specs.InBytes.{kindByte, exactOfBytes, superpositionOfBytes}
-use Rattle.printer.specs.Text.{decimal, field, line, refusedLine}
-use Rattle.printer.specs.Printed.{lines, printedOf, printed}
+use Rattle.text.specs.Text.{decimal, field, line, refusedLine}
+use Rattle.text.specs.Answered.{lines, printedOf}
+use Rattle.printer.specs.Printed.{printed}
 
 -- "it prints, whole"
 abbrev S7-text : List ℕ

@@ -1,3 +1,1 @@
-pub mod Text
 pub mod Printed
-pub mod Putting

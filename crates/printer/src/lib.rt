@@ -1,6 +1,4 @@
 // Document 01, "The verdict printer": the text that it prints. specs/ says what that is.
 pub mod report;
-mod text;
 
-pub use report::ROOM;
 pub use report::put_verdicts;

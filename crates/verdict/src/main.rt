@@ -2,8 +2,8 @@
 use libc::STDERR_FILENO;
 use libc::STDIN_FILENO;
 use libc::STDOUT_FILENO;
-use printer::ROOM;
 use printer::put_verdicts;
+use text::ROOM;
 
 // How many bytes were read: as many as there are, up to the buffer's length. -1 where a read failed, since what came before is not the whole input.
 fn read_input(input: &mut [u8]) -> isize {

@@ -3,7 +3,7 @@ use Prim.Native.Nat.{ℕ, suc, _+_, _*_, _/_, _%_, _<_}
 use mathlib.Core.Bool.{Bool, cond, _||_}
 use mathlib.Core.List.{List, [], _∷_, _++_}
 use lib.Dec.{eqb}
-use lib.ListN.{length, getD, drop}
+use lib.ListN.{getD}
 use Rattle.model.specs.declared.elements.Period.{Period}
 use Rattle.model.specs.declared.elements.Period.the-variants.{Once, Every}
 use Rattle.model.specs.declared.elements.Element.{Element}
@@ -56,7 +56,3 @@ recordOf e = startOf (e .period) ++ (numberBytes (e .offset) ++ numberBytes (e .
 unfoldable pub recordsOf : List Element → List ℕ
 recordsOf [] = []
 recordsOf (e ∷ s) = recordOf e ++ recordsOf s
-
--- these bytes at the start of a buffer; "bytes of its buffer past the end stay"
-abbrev pub over : List ℕ → List ℕ → List ℕ
-over s out = s ++ drop (length s) out

@@ -19,7 +19,7 @@ use Rattle.model.specs.TurnedAway.{turned, unless, checkElements, checkSet}
 use Rattle.model.proofs.TurnedAwayLaws.{turned-tells, then-fine, then-turned, unless-turned, unless-fine, elements-turned, turned-elements, set-fine}
 use Rattle.writer.specs.declared.writing.Written.the-variants.{Bytes, Refused}
 use Rattle.writer.specs.Writing.{bytesOf, checkWrite, writtenBy, writeSet, bufferAfter}
-use Rattle.wire.specs.Format.{over}
+use Rattle.model.specs.Buffers.{over}
 use Rattle.writer.specs.Outcomes.{HasTooMany, HasBadValue, HasNoRoom, IsNotWritten}
 use Rattle.wire.proofs.RowLaws.{value-turned, value-turns}
 

@@ -12,7 +12,7 @@ use Rattle.model.specs.Elements.{places, counted}
 use Rattle.model.proofs.ElementLaws.{counted-long, counted-at}
 use Rattle.wire.specs.Format.{recordOf, recordsOf}
 use Rattle.writer.specs.Writing.{bytesOf}
-use Rattle.wire.specs.Format.{over}
+use Rattle.model.specs.Buffers.{over}
 use Rattle.model.proofs.StoreLaws.{sets-append}
 use Rattle.writer.proofs.WritingLaws.{start-length, record-length, records-step, records-within}
 

@@ -16,7 +16,7 @@ use Rattle.model.specs.declared.answers.Check.the-variants.{Fine, TurnedAway}
 use Rattle.model.specs.TurnedAway.{unless, checkSet}
 use Rattle.writer.specs.declared.writing.Written.the-variants.{Bytes, Refused}
 use Rattle.writer.specs.Writing.{bytesOf, checkWrite, writeSet, bufferAfter}
-use Rattle.wire.specs.Format.{over}
+use Rattle.model.specs.Buffers.{over}
 use Rattle.wire.specs.Format.{numberBytes, startOf, recordOf, recordsOf}
 
 -- SIZES

@@ -10,7 +10,8 @@ use Rattle.model.specs.Elements.{counted}
 use Rattle.model.specs.TurnedAway.{unless, _then_, checkSet}
 use Rattle.writer.specs.declared.writing.Written.{Written}
 use Rattle.writer.specs.declared.writing.Written.the-variants.{Bytes, Refused}
-use Rattle.wire.specs.Format.{recordsOf, over}
+use Rattle.model.specs.Buffers.{over}
+use Rattle.wire.specs.Format.{recordsOf}
 
 -- "The writer puts records in table order and nothing else"
 abbrev pub bytesOf : TaskSet → List ℕ

@@ -7,7 +7,7 @@ ghost use lib.Seq.{sets};
 ghost use Rattle.model.specs.Elements.{places};
 ghost use Rattle.wire.specs.Format.{numberBytes, startOf, recordOf};
 ghost use Rattle.writer.specs.Writing.{bytesOf, writeSet, bufferAfter};
-ghost use Rattle.wire.specs.Format.{over};
+ghost use Rattle.model.specs.Buffers.{over};
 use crate::numbers::put_number;
 use model::Check;
 use model::Element;

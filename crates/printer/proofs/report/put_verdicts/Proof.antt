@@ -1,10 +1,6 @@
 -- `printer::report::put_verdicts` meets its contract. Assumes nothing.
-use native.Mathlib.Omega.{arith}
-use denote.Ref.{now}
 use borrow.Author.Needs.{needs}
 use Rattle.printer.specs.Printed.{printed}
-use Rattle.printer.proofs.TextLaws.{puts-over}
-use Rattle.printer.proofs.PrintedLaws.{printed-fits}
 use Rattle.printer.proofs.report.put_verdicts.Statement.{statement}
 use Rattle.printer.proofs.report.put_verdicts.Tie as tie
 
@@ -25,14 +21,12 @@ put-answers-requires c κs = search needs
 
 returns : tie.Need-returns
 unfolding printed
-returns c =
-    let b = now (c .before .before .before .before .before .before .before .args .bytes) in
-    puts-over (printed b) (omega (arith, printed-fits b)) (rw (
-      c .before .before .before .before .before .exact-of-bytes .ensures,
-      c .before .before .before .before .superposition-of-bytes .ensures,
-      c .before .before .before .superposition-of-bytes2 .ensures,
-      c .before .before .superposition-of-bytes3 .ensures,
-    ) at (c .put-answers .ensures))
+returns c = rw (
+  c .before .before .before .before .before .exact-of-bytes .ensures,
+  c .before .before .before .before .superposition-of-bytes .ensures,
+  c .before .before .before .superposition-of-bytes2 .ensures,
+  c .before .before .superposition-of-bytes3 .ensures,
+) at (c .put-answers .ensures)
 
 pub put-verdicts-spec : {M : Type 1} → statement M
 put-verdicts-spec =

@@ -1,9 +1,9 @@
--- `printer::text::put_two` meets its contract. Assumes nothing.
+-- `text::fields::put_two` meets its contract. Assumes nothing.
 use native.Mathlib.Omega.{arith}
 use borrow.Author.Needs.{needs}
-use Rattle.printer.proofs.TextLaws.{puts-then, field-room}
-use Rattle.printer.proofs.text.put_two.Statement.{statement}
-use Rattle.printer.proofs.text.put_two.Tie as tie
+use Rattle.text.proofs.TextLaws.{puts-then, field-room}
+use Rattle.text.proofs.fields.put_two.Statement.{statement}
+use Rattle.text.proofs.fields.put_two.Tie as tie
 
 put-field-requires : tie.Need-put-field-requires
 put-field-requires c κs = search needs

@@ -1,8 +1,8 @@
--- `printer::text::put_line` meets its contract. Assumes nothing.
+-- `text::fields::put_line` meets its contract. Assumes nothing.
 use borrow.Author.Needs.{needs}
-use Rattle.printer.proofs.TextLaws.{puts-line}
-use Rattle.printer.proofs.text.put_line.Statement.{statement}
-use Rattle.printer.proofs.text.put_line.Tie as tie
+use Rattle.text.proofs.TextLaws.{puts-line}
+use Rattle.text.proofs.fields.put_line.Statement.{statement}
+use Rattle.text.proofs.fields.put_line.Tie as tie
 
 put-requires : tie.Need-put-requires
 put-requires c κs = search needs

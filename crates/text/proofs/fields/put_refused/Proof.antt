@@ -1,10 +1,10 @@
--- `printer::text::put_refused` meets its contract. Assumes nothing.
+-- `text::fields::put_refused` meets its contract. Assumes nothing.
 use native.Mathlib.Omega.{arith}
 use borrow.Author.Needs.{needs}
-use Rattle.printer.specs.Text.{refusedLine}
-use Rattle.printer.proofs.TextLaws.{puts-then, puts-room, two-room}
-use Rattle.printer.proofs.text.put_refused.Statement.{statement}
-use Rattle.printer.proofs.text.put_refused.Tie as tie
+use Rattle.text.specs.Text.{refusedLine}
+use Rattle.text.proofs.TextLaws.{puts-then, puts-room, two-room}
+use Rattle.text.proofs.fields.put_refused.Statement.{statement}
+use Rattle.text.proofs.fields.put_refused.Tie as tie
 
 cast-number : tie.Need-cast-number
 cast-number c = search needs

@@ -19,10 +19,10 @@ use Rattle.model.specs.Answers.{values}
 use Rattle.model.specs.Number.{least}
 use Rattle.model.proofs.Cases.{lt-or-le}
 use Rattle.model.proofs.NumberLaws.{IsFirst, least-most, least-at}
-use Rattle.wire.specs.Format.{over}
+use Rattle.model.specs.Buffers.{over}
 use Rattle.model.proofs.StoreLaws.{two-runs}
-use Rattle.printer.specs.Text.{decimal, field, newline, line, refusedLine}
-use Rattle.printer.specs.Putting.{Puts}
+use Rattle.text.specs.Text.{decimal, field, newline, line, refusedLine}
+use Rattle.text.specs.Putting.{Puts}
 
 -- PUT ONE AFTER THE OTHER
 pub puts-then : {x y l m n : List ℕ} {at b c : ℕ} → Puts x l at m b → Puts y m b n c → Puts (x ++ y) l at n c

@@ -1,12 +1,12 @@
--- `printer::report::put_lines` meets its contract. Assumes nothing.
+-- `text::answers::put_lines` meets its contract. Assumes nothing.
 use native.Mathlib.Omega.{arith}
 use borrow.Author.Needs.{needs}
 use Rattle.model.specs.Number.{least}
-use Rattle.printer.specs.Text.{decimal}
-use Rattle.printer.specs.Printed.{lines}
-use Rattle.printer.proofs.TextLaws.{puts-then, line-room}
-use Rattle.printer.proofs.report.put_lines.Statement.{statement}
-use Rattle.printer.proofs.report.put_lines.Tie as tie
+use Rattle.text.specs.Text.{decimal}
+use Rattle.text.specs.Answered.{lines}
+use Rattle.text.proofs.TextLaws.{puts-then, line-room}
+use Rattle.text.proofs.answers.put_lines.Statement.{statement}
+use Rattle.text.proofs.answers.put_lines.Tie as tie
 
 slice-aggregate-put-line : tie.Need-slice-aggregate-put-line
 slice-aggregate-put-line c = search needs

@@ -1,11 +1,11 @@
--- `printer::text::put_field` meets its contract. Assumes nothing.
+-- `text::fields::put_field` meets its contract. Assumes nothing.
 use Prim.Native.Nat.{_≤_}
 use native.Mathlib.Omega.{arith}
 use lib.ListN.{length-set}
 use borrow.Author.Needs.{needs}
-use Rattle.printer.proofs.TextLaws.{fewest-few, puts-room, puts-field}
-use Rattle.printer.proofs.text.put_field.Statement.{statement}
-use Rattle.printer.proofs.text.put_field.Tie as tie
+use Rattle.text.proofs.TextLaws.{fewest-few, puts-room, puts-field}
+use Rattle.text.proofs.fields.put_field.Statement.{statement}
+use Rattle.text.proofs.fields.put_field.Tie as tie
 
 few : (c : tie.After-decimal) → c .decimal .result ≤ 20
 few c = fewest-few (c .before .before .before .args .n) _ (omega arith) (c .decimal .ensures .1 .0)

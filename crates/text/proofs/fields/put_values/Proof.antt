@@ -1,11 +1,11 @@
--- `printer::text::put_values` meets its contract. Assumes nothing.
+-- `text::fields::put_values` meets its contract. Assumes nothing.
 use mathlib.Core.List.{_++_, append-assoc}
 use native.Mathlib.Omega.{arith}
 use borrow.Author.Needs.{needs}
-use Rattle.printer.specs.Text.{field}
-use Rattle.printer.proofs.TextLaws.{puts-then, two-room}
-use Rattle.printer.proofs.text.put_values.Statement.{statement}
-use Rattle.printer.proofs.text.put_values.Tie as tie
+use Rattle.text.specs.Text.{field}
+use Rattle.text.proofs.TextLaws.{puts-then, two-room}
+use Rattle.text.proofs.fields.put_values.Statement.{statement}
+use Rattle.text.proofs.fields.put_values.Tie as tie
 
 put-two-requires : tie.Need-put-two-requires
 put-two-requires c κs = search needs

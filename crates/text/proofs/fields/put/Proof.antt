@@ -1,11 +1,11 @@
--- `printer::text::put` meets its contract. Assumes nothing.
+-- `text::fields::put` meets its contract. Assumes nothing.
 use Prim.Native.Nat.{_-_}
 use native.Mathlib.Omega.{arith}
 use lib.ListN.{length}
 use borrow.Author.Needs.{needs}
-use Rattle.printer.proofs.TextLaws.{Putting, putting-start, putting-long, putting-next, putting-end}
-use Rattle.printer.proofs.text.put.Statement.{statement}
-use Rattle.printer.proofs.text.put.Tie as tie
+use Rattle.text.proofs.TextLaws.{Putting, putting-start, putting-long, putting-next, putting-end}
+use Rattle.text.proofs.fields.put.Statement.{statement}
+use Rattle.text.proofs.fields.put.Tie as tie
 
 abbrev Inv-loop : tie.InvT-loop
 Inv-loop out₀ at text i₀ out i = Putting text out₀ at out i

@@ -1,8 +1,8 @@
--- `printer::report::put_answers` meets its contract. Assumes nothing.
+-- `text::answers::put_in` meets its contract. Assumes nothing.
 use borrow.Author.Needs.{needs}
-use Rattle.printer.specs.Printed.{printedOf}
-use Rattle.printer.proofs.report.put_answers.Statement.{statement}
-use Rattle.printer.proofs.report.put_answers.Tie as tie
+use Rattle.text.specs.Answered.{printedOf}
+use Rattle.text.proofs.answers.put_in.Statement.{statement}
+use Rattle.text.proofs.answers.put_in.Tie as tie
 
 enum-known-exact : tie.Need-enum-known-exact
 enum-known-exact c = search needs
@@ -103,8 +103,8 @@ returns-5 c =
     )
     (c .before .before .put-lines .ensures)
 
-pub put-answers-spec : {M : Type 1} → statement M
-put-answers-spec =
+pub put-in-spec : {M : Type 1} → statement M
+put-in-spec =
     tie.close
     (tie.spec
     enum-known-exact

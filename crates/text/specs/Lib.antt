@@ -1,0 +1,3 @@
+pub mod Text
+pub mod Answered
+pub mod Putting
