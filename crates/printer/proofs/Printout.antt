@@ -14,7 +14,7 @@ use Rattle.wire.specs.Format.{numberBytes, isKind, bodySize, recordSize, elemen
 use Rattle.wire.specs.Reading.{checkRecord, noBytes, checkRecords, elementsIn}
 use Rattle.analysis.specs.InBytes.{kindByte, exactOfBytes, superpositionOfBytes}
 use Rattle.text.specs.Text.{decimal, field, line, refusedLine}
-use Rattle.text.specs.Answered.{lines, printedOf}
+use Rattle.text.specs.Answered.{lines, shownOf, printedOf}
 use Rattle.printer.specs.Printed.{printed}
 
 -- "it prints, whole"
@@ -59,5 +59,5 @@ pub printout :
     × (printed (recordsOf S5) ≡ S5-text)
     × (printed (0 ∷ []) ≡ unknown-kind)
     × (printed (recordsOf S11-refused) ≡ long-hyperperiod)
-unfolding gcdIn gcd lcm least someBelow howMany sumOver largestOver someOver allOver within isPeriod isOffset isDeadline isCost F H demandOf D loadIn isTestOf isTest isOverrun multiple overloadAt overload failing stop comparing byLoad exact scaledBy scaledIn isAbove isVisited superposition unless checkElement firstAbove checkH checkK isLarge isLargeAt meetsLarge exactIsLarge superpositionIsLarge analysis numberBytes isKind bodySize recordSize elementOf startOf recordOf recordsOf checkRecord noBytes checkRecords elementsIn kindByte exactOfBytes superpositionOfBytes decimal field line refusedLine lines printedOf printed
+unfolding gcdIn gcd lcm least someBelow howMany sumOver largestOver someOver allOver within isPeriod isOffset isDeadline isCost F H demandOf D loadIn isTestOf isTest isOverrun multiple overloadAt overload failing stop comparing byLoad exact scaledBy scaledIn isAbove isVisited superposition unless checkElement firstAbove checkH checkK isLarge isLargeAt meetsLarge exactIsLarge superpositionIsLarge analysis numberBytes isKind bodySize recordSize elementOf startOf recordOf recordsOf checkRecord noBytes checkRecords elementsIn kindByte exactOfBytes superpositionOfBytes decimal field line refusedLine lines shownOf printedOf printed
 printout = (refl, refl, refl, refl)

@@ -5,14 +5,25 @@ ghost use lib.ListN.{length};
 ghost use Rattle.model.specs.Answers.{values};
 ghost use Rattle.model.specs.Buffers.{over};
 ghost use Rattle.text.specs.Putting.{Puts};
-ghost use Rattle.text.specs.Answered.{lines, printedOf};
+ghost use Rattle.text.specs.Answered.{lines, shownOf, textOf, printedOf};
 use crate::fields::put_line;
 use crate::fields::put_refused;
 use model::Answer;
+use model::Refusal;
 use model::Verdict;
 
 // No text is longer than 356 bytes.
 pub const ROOM: usize = 512;
+
+enum Shown {
+    Refusal(Refusal),
+    Lines {
+        exact: Verdict,
+        one: Verdict,
+        two: Verdict,
+        hundred: Verdict,
+    },
+}
 
 fn put_lines(out: &mut [u8], exact: Verdict, one: Verdict, two: Verdict, hundred: Verdict) -> usize
     requires { ⌜ 356 ≤ length (now out) ⌝ }
@@ -25,35 +36,51 @@ fn put_lines(out: &mut [u8], exact: Verdict, one: Verdict, two: Verdict, hundred
 }
 
 // The first refusal decides.
-fn put_in(out: &mut [u8], exact: Answer, one: Answer, two: Answer, hundred: Answer) -> usize
-    requires { ⌜ 356 ≤ length (now out) ⌝ }
-    ensures { λ r. ⌜ Puts (printedOf exact one two hundred) (now (out .entry)) 0 (now (out .exit)) r ⌝ }
+fn shown_of(exact: Answer, one: Answer, two: Answer, hundred: Answer) -> Shown
+    ensures { λ r. ⌜ r ≡ shownOf exact one two hundred ⌝ }
 {
     let e = match exact {
         Answer::Refused(r) => {
-            return put_refused(out, r);
+            return Shown::Refusal(r);
         }
         Answer::Given(v) => v,
     };
     let a = match one {
         Answer::Refused(r) => {
-            return put_refused(out, r);
+            return Shown::Refusal(r);
         }
         Answer::Given(v) => v,
     };
     let b = match two {
         Answer::Refused(r) => {
-            return put_refused(out, r);
+            return Shown::Refusal(r);
         }
         Answer::Given(v) => v,
     };
-    let c = match hundred {
-        Answer::Refused(r) => {
-            return put_refused(out, r);
-        }
-        Answer::Given(v) => v,
-    };
-    put_lines(out, e, a, b, c)
+    match hundred {
+        Answer::Refused(r) => Shown::Refusal(r),
+        Answer::Given(c) => Shown::Lines {
+            exact: e,
+            one: a,
+            two: b,
+            hundred: c,
+        },
+    }
+}
+
+fn put_shown(out: &mut [u8], shown: Shown) -> usize
+    requires { ⌜ 356 ≤ length (now out) ⌝ }
+    ensures { λ r. ⌜ Puts (textOf shown) (now (out .entry)) 0 (now (out .exit)) r ⌝ }
+{
+    match shown {
+        Shown::Refusal(r) => put_refused(out, r),
+        Shown::Lines {
+            exact,
+            one,
+            two,
+            hundred,
+        } => put_lines(out, exact, one, two, hundred),
+    }
 }
 
 // Puts the text of the answers of the exact test and of k = 1, 2 and 100 at the start of out, and answers how many bytes that are.
@@ -69,5 +96,6 @@ pub fn put_answers(
         × (now (out .exit) ≡ over (printedOf exact one two hundred) (now (out .entry)))
         ⌝ }
 {
-    put_in(out, exact, one, two, hundred)
+    let all = shown_of(exact, one, two, hundred);
+    put_shown(out, all)
 }
