@@ -1,4 +1,4 @@
-/* The exact test in segments: the method of crates/analysis/src/segments.rt. The inner loops are entered with a date, so their test stands
+/* The exact test in segments: the method of crates/exact_test/src/segments.rt. The inner loops are entered with a date, so their test stands
    at the end. */
 #include "bench.h"
 

@@ -1,4 +1,4 @@
-/* Superposition: the walk of crates/analysis/src/walk.rt. */
+/* Superposition: the walk of crates/superposition_test/src/walk.rt. */
 #include "bench.h"
 
 /* Each place's last length, and what it adds to the slope past it. */

@@ -9,7 +9,7 @@ use Rattle.model.specs.declared.answers.Check.{Check}
 use Rattle.model.specs.declared.answers.Check.the-variants.{Fine, TurnedAway}
 use Rattle.model.specs.declared.answers.Numbers.{Numbers}
 use Rattle.writer.specs.declared.writing.Written.{Written}
-use Rattle.writer.specs.declared.writing.Written.the-variants.{Bytes, Refused}
+use Rattle.writer.specs.declared.writing.Written.the-variants.{Refused}
 use Rattle.wire.specs.Reading.{readSet}
 use Rattle.model.specs.Buffers.{over}
 use Rattle.writer.specs.Writing.{writtenNumbers, writeSet, bufferAfter}

@@ -1,6 +1,6 @@
 -- Laws of specs/Columns: what a column holds, and what holds whenever `lay` turns to the place i. Assumes nothing.
 use Prim.Native.Nat.{ℕ, zero, suc, _+_, _≤_, _<_, min}
-use mathlib.Core.Path.{_≡_, refl, sym, ap, _∙_}
+use mathlib.Core.Path.{_≡_, refl, ap, _∙_}
 use mathlib.Core.List.{List, [], _∷_, map, map-append}
 use mathlib.Core.Logic.{⊎-elim}
 use native.Mathlib.Omega.{arith}

@@ -1,5 +1,5 @@
 -- No text of four answers is longer than the buffer. Assumes nothing.
-use Prim.Native.Nat.{ℕ, _≤_}
+use Prim.Native.Nat.{_≤_}
 use native.Mathlib.Omega.{arith}
 use lib.ListN.{length, length-append}
 use Rattle.model.specs.declared.answers.Answer.{Answer}

@@ -13,9 +13,7 @@ use lib.Seq.{sets, sets-eq, length-sets, length-take-le, take-suc, take-all}
 use borrow.Author.Tests.{lt-ltb, le-ltb}
 use Rattle.io.specs.Digits.{digits, Fewest}
 use Rattle.model.specs.declared.answers.Refusal.{Refusal}
-use Rattle.model.specs.declared.answers.Verdict.{Verdict}
 use Rattle.model.specs.declared.answers.Values.{Values}
-use Rattle.model.specs.Answers.{values}
 use Rattle.model.specs.Number.{least}
 use Rattle.model.proofs.Cases.{lt-or-le}
 use Rattle.model.proofs.NumberLaws.{IsFirst, least-most, least-at}

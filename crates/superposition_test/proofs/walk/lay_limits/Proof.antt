@@ -1,6 +1,6 @@
 -- `superposition_test::walk::lay_limits` meets its contract. Assumes nothing.
-use Prim.Native.Nat.{_-_, _*_, _/_, _≤_}
-use mathlib.Core.Path.{_≡_, sym, ap, _∙_}
+use Prim.Native.Nat.{_-_, _*_, _/_}
+use mathlib.Core.Path.{_≡_, sym, _∙_}
 use native.Mathlib.Omega.{arith}
 use lib.ListN.{length, length-map, getD}
 use Rattle.model.specs.Elements.{places}

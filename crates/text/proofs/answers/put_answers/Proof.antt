@@ -1,7 +1,7 @@
 -- `text::answers::put_answers` meets its contract. Assumes nothing.
 use native.Mathlib.Omega.{arith}
 use borrow.Author.Needs.{needs}
-use Rattle.text.specs.Answered.{textOf, printedOf}
+use Rattle.text.specs.Answered.{printedOf}
 use Rattle.text.proofs.TextLaws.{puts-over}
 use Rattle.text.proofs.AnsweredLaws.{printed-long}
 use Rattle.text.proofs.answers.put_answers.Statement.{statement}
