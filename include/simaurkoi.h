@@ -91,7 +91,7 @@
    made. So several threads may call at once, each with an out and an answer of its own; they may
    share a set.
    Stack: allow 52 KB for simaurkoi_exact, 20 KB for simaurkoi_superposition, 14 KB for
-   simaurkoi_rewrite. The frames take 49,408, 18,160 and 12,976 bytes.
+   simaurkoi_rewrite. The frames take 49,392, 18,176 and 12,976 bytes.
    Time: the exact test compares fewer than 1,107,296,256 lengths. Most sets have far fewer; the
    longest runs take seconds. Superposition compares at most k lengths for each record of kind 1 and
    one for each of kind 2, which takes milliseconds; rewriting takes microseconds. */
