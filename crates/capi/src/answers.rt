@@ -2,12 +2,39 @@
 ghost use Prim.Native.Nat.{_≤_};
 ghost use mathlib.Core.Path.{_≡_};
 ghost use lib.ListN.{length};
+ghost use Rattle.model.specs.Answers.{numbers};
 ghost use Rattle.model.specs.Buffers.{over};
 ghost use Rattle.capi.specs.Calls.{six, rewriteNumbers};
 use model::Answer;
 use model::Numbers;
-use model::answers::numbers_of;
+use model::answers::values_of;
 use writer::Written;
+
+pub(crate) fn numbers_of(answer: Answer) -> Numbers
+    ensures { λ r. ⌜ r ≡ numbers answer ⌝ }
+{
+    match answer {
+        Answer::Refused(r) => Numbers {
+            refusal: r.number,
+            place: r.place,
+            verdict: 0,
+            interval: 0,
+            demand: 0,
+            count: 0,
+        },
+        Answer::Given(given) => {
+            let v = values_of(given);
+            Numbers {
+                refusal: 0,
+                place: 0,
+                verdict: v.verdict,
+                interval: v.interval,
+                demand: v.demand,
+                count: v.count,
+            }
+        }
+    }
+}
 
 // Returns the refusal's number.
 pub(crate) fn put_numbers(answer: &mut [u64], n: Numbers) -> u32

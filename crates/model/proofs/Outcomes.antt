@@ -7,10 +7,8 @@ use Rattle.model.specs.declared.answers.Check.{Check}
 use Rattle.model.specs.declared.answers.Verdict.{Verdict}
 use Rattle.model.specs.declared.answers.Verdict.the-variants.{Passes, Overrun, LoadAboveOne, NotShown}
 use Rattle.model.specs.declared.answers.Values.{Values}
-use Rattle.model.specs.declared.answers.Answer.{Answer}
-use Rattle.model.specs.declared.answers.Numbers.{Numbers}
 use Rattle.model.specs.Elements.{filler, emptySet}
-use Rattle.model.specs.Answers.{values, numbers}
+use Rattle.model.specs.Answers.{values}
 use Rattle.model.specs.TurnedAway.{checkElement, checkSet, checkK}
 
 pub filler-is-decided : (a b : Element) → a ≡ filler → b ≡ filler → a ≡ b
@@ -30,9 +28,6 @@ k-check-is-decided k a b p q = p ∙ sym q
 
 pub values-are-decided : (v : Verdict) (a b : Values) → a ≡ values v → b ≡ values v → a ≡ b
 values-are-decided v a b p q = p ∙ sym q
-
-pub numbers-are-decided : (answer : Answer) (a b : Numbers) → a ≡ numbers answer → b ≡ numbers answer → a ≡ b
-numbers-are-decided answer a b p q = p ∙ sym q
 
 -- the verdict that has these values
 verdictOf : ℕ → ℕ → ℕ → ℕ → Verdict

@@ -1,6 +1,6 @@
 // The answer of an analysis, and document 01's numbers for each case. specs/Answers.antt defines them.
 ghost use mathlib.Core.Path.{_≡_};
-ghost use Rattle.model.specs.Answers.{values, numbers};
+ghost use Rattle.model.specs.Answers.{values};
 
 // A row of document 01's table of what is turned away, with its place.
 pub struct Refusal {
@@ -83,31 +83,5 @@ pub fn values_of(verdict: Verdict) -> Values
             demand,
             count,
         } => four(3, interval, demand, count),
-    }
-}
-
-pub fn numbers_of(answer: Answer) -> Numbers
-    ensures { λ r. ⌜ r ≡ numbers answer ⌝ }
-{
-    match answer {
-        Answer::Refused(r) => Numbers {
-            refusal: r.number,
-            place: r.place,
-            verdict: 0,
-            interval: 0,
-            demand: 0,
-            count: 0,
-        },
-        Answer::Given(given) => {
-            let v = values_of(given);
-            Numbers {
-                refusal: 0,
-                place: 0,
-                verdict: v.verdict,
-                interval: v.interval,
-                demand: v.demand,
-                count: v.count,
-            }
-        }
     }
 }

@@ -1,4 +1,3 @@
-pub mod PrintedLaws
+pub mod TextLaws
+pub mod AnsweredLaws
 pub mod Outcomes
-pub mod Printout
-pub mod FirstBytesDecide

@@ -1,1 +1,3 @@
-pub mod Printed
+pub mod Text
+pub mod Answered
+pub mod Putting

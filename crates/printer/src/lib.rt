@@ -1,4 +1,6 @@
-// Document 01, "The verdict printer": the text that it prints. specs/ says what that is.
-pub mod report;
+// Texts that are printed. specs/ says what each is.
+pub mod answers;
+mod fields;
 
-pub use report::put_verdicts;
+pub use answers::ROOM;
+pub use answers::put_answers;

@@ -1,9 +1,11 @@
 // Document 01, "The verdict printer": reads a set as bytes from standard input, and prints what both tests answer.
+mod report;
+
+use crate::report::put_verdicts;
 use libc::STDERR_FILENO;
 use libc::STDIN_FILENO;
 use libc::STDOUT_FILENO;
-use printer::put_verdicts;
-use text::ROOM;
+use printer::ROOM;
 
 // How many bytes were read: as many as there are, up to the buffer's length. -1 where a read failed, since what came before is not the whole input.
 fn read_input(input: &mut [u8]) -> isize {

@@ -1,6 +1,6 @@
 -- `verdict::print` is safe and ends. Assumes nothing.
 use borrow.Author.Needs.{needs}
-use Rattle.printer.proofs.PrintedLaws.{put-counts}
+use Rattle.verdict.proofs.PrintedLaws.{put-counts}
 use Rattle.verdict.proofs.print.Statement.{statement}
 use Rattle.verdict.proofs.print.Tie as tie
 

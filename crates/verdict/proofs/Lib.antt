@@ -1,0 +1,4 @@
+pub mod PrintedLaws
+pub mod Outcomes
+pub mod Printout
+pub mod FirstBytesDecide
