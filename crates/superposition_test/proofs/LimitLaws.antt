@@ -9,12 +9,10 @@ use Rattle.model.specs.declared.elements.Period.{Period}
 use Rattle.model.specs.declared.elements.Period.the-variants.{Once, Every}
 use Rattle.model.specs.declared.elements.Element.{Element}
 use Rattle.model.specs.declared.elements.TaskSet.{TaskSet}
-use Rattle.model.specs.Over.{sumOver}
 use Rattle.model.specs.Elements.{mostPeriod, places, mostH, mostK}
 use Rattle.model.specs.Demand.{f, turns}
 use Rattle.model.specs.Superposition.{exactPart, m}
 use Rattle.model.proofs.ElementLaws.{Runs, Legal}
-use Rattle.theory.specs.Approximation.{lengthsOf, budget}
 use Rattle.theory.specs.Growth.{riseOf}
 use Rattle.theory.specs.Places.{elementAt}
 use Rattle.theory.specs.Sizes.{mostLength}
@@ -45,15 +43,6 @@ turns-by-step (Every p) h l = refl
 -- what it adds to the slope
 pub rise-by-step : (e : Element) (h x : ℕ) → h ≤ mostH → x ≡ stepIn e → e .cost * (h / x) ≡ riseOf h e
 rise-by-step e h x l q = ap (λ y. e .cost * y) (ap (λ y. h / y) q ∙ turns-by-step (e .period) h l)
-
--- k lengths, or one
-pub lengths-most : (k : ℕ) → 1 ≤ k → k ≤ mostK → (q : Period) → lengthsOf k q ≤ mostK
-lengths-most k l u Once = omega arith
-lengths-most k l u (Every p) = u
-
-pub budget-is : (k : ℕ) (s : List Element) → sumOver s (λ e. lengthsOf k (e .period)) ≡ budget k s
-unfolding budget
-budget-is k s = refl
 
 -- ALL PLACES
 pub record Limiting (t : TaskSet) (k h : ℕ) (last rise : List ℕ) (i : ℕ) : Type 0 where

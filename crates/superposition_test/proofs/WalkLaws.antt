@@ -20,7 +20,7 @@ use Rattle.model.specs.Demand.{H, D, loadIn}
 use Rattle.model.specs.Superposition.{m, HD', isAbove, isVisited, superpositionLengths}
 use Rattle.model.specs.TurnedAway.{isLarge, isLargeAt}
 use Rattle.model.proofs.Cases.{test, clash, lt-or-le}
-use Rattle.model.proofs.NumberLaws.{howMany-zero, howMany-gap, howMany-rises, howMany-more, howMany-all}
+use Rattle.model.proofs.NumberLaws.{howMany-zero, howMany-gap, howMany-more, howMany-all}
 use Rattle.model.proofs.OverLaws.{each-map, sum-le, sum-zero, sum-most}
 use Rattle.model.proofs.ElementLaws.{Legal, all-legal}
 use Rattle.model.proofs.TurnedAwayLaws.{is-large, not-large}
@@ -56,7 +56,7 @@ module _ (t : TaskSet) (k h : ℕ) where
   abbrev slopeAt : ℕ → ℕ
   slopeAt I = growth.slope k (H (counted t)) (counted t) I
 
-  pub record Walking (step cost last rise next : List ℕ) (before scaled slope count left : ℕ) : Type 0 where
+  pub record Walking (step cost last rise next : List ℕ) (before scaled slope count : ℕ) : Type 0 where
     pub set : LegalPlaces t
     pub fit : Fit t k h
     pub columns : Columns t k step cost last rise
@@ -66,7 +66,6 @@ module _ (t : TaskSet) (k h : ℕ) where
     pub slopes : slope ≡ slopeAt before
     pub passed : Passed before
     pub counts : count ≡ howMany (isVisited k (counted t)) (suc before)
-    pub budgets : left + count ≡ budget k (counted t)
     pub few : count ≤ before
     pub low : before ≤ mostLength
 
@@ -86,9 +85,9 @@ module _ (t : TaskSet) (k h : ℕ) where
     slope-starts = sum-zero (counted t) _ (each-map (counted t) no-slope (all-legal (counted t) (p .all)))
 
     pub start :
-        (next step cost last rise : List ℕ) (left : ℕ) → Laid t next step cost → Limited t k h last rise → left ≡ budget k (counted t) →
-        Walking step cost last rise next 0 0 0 0 left
-    start next step cost last rise left a b e = record {
+        (next step cost last rise : List ℕ) → Laid t next step cost → Limited t k h last rise →
+        Walking step cost last rise next 0 0 0 0
+    start next step cost last rise a b = record {
       set = p;
       fit = w;
       columns = record {
@@ -105,7 +104,6 @@ module _ (t : TaskSet) (k h : ℕ) where
       counts =
           let g = howMany-gap (isVisited k (counted t)) 0 1 (λ J m n. let z : J ≡ 0 = omega arith in rw z zero-unvisited) in
           sym (g ∙ howMany-zero (isVisited k (counted t)));
-      budgets = omega (arith, e);
       few = omega arith;
       low = omega arith;
     }
@@ -114,13 +112,12 @@ module _ (t : TaskSet) (k h : ℕ) where
   answer = compared (counted t) NotShown (superpositionLengths k (counted t)) (isLargeWith k (counted t))
 
   -- THE MOVE: every place that has the length `at` has moved on; what is due there is added, and the slope grows by `more`
-  pub record Turning (step cost last rise next : List ℕ) (before scaled slope count left at due more : ℕ) : Type 0 where
+  pub record Turning (step cost last rise next : List ℕ) (before scaled slope count at due more : ℕ) : Type 0 where
     pub set : LegalPlaces t
     pub fit : Fit t k h
     pub columns : Columns t k step cost last rise
     pub long : length next ≡ places
     pub nexts : Nexts t k at next
-    pub going : 0 < left
     pub later : before < at
     pub low : at ≤ mostLength
     pub visit : isVisited k (counted t) at ≡ true
@@ -128,7 +125,7 @@ module _ (t : TaskSet) (k h : ℕ) where
     pub sum : scaled + (slope * (at - before) + due * h) ≡ HD' k (counted t) at
     pub slopes : slope + more ≡ slopeAt at
     pub counts : count ≡ howMany (isVisited k (counted t)) at
-    pub budgets : left + count ≡ budget k (counted t)
+    pub within : count < budget k (counted t)
     pub few : count ≤ before
     pub line-small : slope * (at - before) ≤ mostH * mostLength
     pub due-few : due ≤ places * mostCost
@@ -145,8 +142,8 @@ module _ (t : TaskSet) (k h : ℕ) where
   slope-part I e g = part-of (ltb I (m k e)) (growth.riseOf (H (counted t)) e) .1
 
   module _
-      {step cost last rise next : List ℕ} {before scaled slope count left : ℕ}
-      (w : Walking step cost last rise next before scaled slope count left) where
+      {step cost last rise next : List ℕ} {before scaled slope count : ℕ}
+      (w : Walking step cost last rise next before scaled slope count) where
     slope-most : (I : ℕ) → slopeAt I ≤ mostH
     unfolding growth.slope loadIn
     slope-most I =
@@ -169,23 +166,6 @@ module _ (t : TaskSet) (k h : ℕ) where
     pub none-left : Least next (t .count) none → Given (Passes count) ≡ answer
     none-left l = done (λ I v. ⊎-elim
         (λ a. absurd (clash v (quiet t (w .set) k before none next (w .nexts) l I a (omega (arith, visited-most t (w .set) k (w .fit .high) I v)))))
-        (λ a. omega arith)
-        (lt-or-le before I))
-
-    -- with the budget spent every visited length is compared
-    pub spent : left ≤ 0 → Given (Passes count) ≡ answer
-    spent z = done (λ I v. ⊎-elim
-        (λ (a : before < I).
-        let e : suc before + (I - suc before) ≡ I = omega arith in
-        let r = rw e at (howMany-rises (isVisited k (counted t)) (suc before) (I - suc before)) in
-        absurd (omega (
-          arith,
-          r,
-          rw v at (howMany-more (isVisited k (counted t)) I),
-          visits-at-most k (counted t) (suc I) (w .set .all) (w .fit .low),
-          w .counts,
-          w .budgets,
-        )))
         (λ a. omega arith)
         (lt-or-le before I))
 
@@ -226,6 +206,23 @@ module _ (t : TaskSet) (k h : ℕ) where
           scaled-rises-along k (counted t) (w .set .all) (w .fit .low) before ticks
           (λ J m n. quiet t (w .set) k before at next (w .nexts) l J m (omega (arith, later)))
 
+      counts-is : count ≡ howMany (isVisited k (counted t)) at
+      counts-is =
+          let e : suc before + ticks ≡ at = omega (arith, later) in
+          let g = howMany-gap (isVisited k (counted t)) (suc before) ticks (λ J m n.
+          quiet t (w .set) k before at next (w .nexts) l J m (omega (arith, later))) in
+          w .counts ∙ sym (rw e at g)
+
+      -- the budget has room for this length
+      few-enough : count < budget k (counted t)
+      few-enough =
+          omega (
+            arith,
+            counts-is,
+            rw visit at (howMany-more (isVisited k (counted t)) at),
+            visits-at-most k (counted t) (suc at) (w .set .all) (w .fit .low),
+          )
+
       module _ {next′ : List ℕ} {r : Moved} (v : MovedOn next next′ step cost last rise (t .count) at r) where
         due-is : r .cost ≡ growth.visitedDueAt k (counted t) at
         due-is = moved-due t (w .set) k before at next (w .nexts) l b (w .columns) v
@@ -252,26 +249,21 @@ module _ (t : TaskSet) (k h : ℕ) where
             let g = rw at-is at (slope-grows k (counted t) (w .set .all) (w .fit .low) (before + ticks)) in
             omega (arith, g, rises-along .0, w .slopes, moved-rise t (w .set) k before at next (w .nexts) l b (w .columns) v)
 
-        pub turn : 0 < left → Turning step cost last rise next′ before scaled slope count left at (r .cost) (r .rise)
-        turn z = record {
+        pub turn : Turning step cost last rise next′ before scaled slope count at (r .cost) (r .rise)
+        turn = record {
           set = w .set;
           fit = w .fit;
           columns = w .columns;
           long = v .long;
           nexts = moved-nexts t (w .set) k before at next (w .nexts) l b (w .columns) v;
-          going = z;
           later = later;
           low = high;
           visit = visit;
           passed = upto-gap _ _ (suc before) at (w .passed) (λ J m n. quiet t (w .set) k before at next (w .nexts) l J m n);
           sum = scaled-is;
           slopes = slope-is;
-          counts =
-              let e : suc before + ticks ≡ at = omega (arith, later) in
-              let g = howMany-gap (isVisited k (counted t)) (suc before) ticks (λ J m n.
-              quiet t (w .set) k before at next (w .nexts) l J m (omega (arith, later))) in
-              w .counts ∙ sym (rw e at g);
-          budgets = w .budgets;
+          counts = counts-is;
+          within = few-enough;
           few = w .few;
           line-small =
               mul-le-mul {n₁ = slope} {m₁ = at - before} {n₂ = mostH} {m₂ = mostLength}
@@ -284,8 +276,8 @@ module _ (t : TaskSet) (k h : ℕ) where
 
   -- WHAT IS FOUND THERE
   module _
-      {step cost last rise next : List ℕ} {before scaled slope count left at due more : ℕ}
-      (w : Turning step cost last rise next before scaled slope count left at due more) where
+      {step cost last rise next : List ℕ} {before scaled slope count at due more : ℕ}
+      (w : Turning step cost last rise next before scaled slope count at due more) where
     below-end : at < superpositionLengths k (counted t) .end
     below-end = visited-below k (counted t) at (w .visit)
 
@@ -321,7 +313,7 @@ module _ (t : TaskSet) (k h : ℕ) where
           let above = lt-ltb (H (counted t) * at) (HD' k (counted t) at) (omega (arith, x-is, top-is)) in
           ap (λ n. Given (NotShown at (D (counted t) at) n)) one-more ∙ sym (compared-failing _ _ _ _ at below-end (w .passed) (w .visit) none-large above)
 
-      pub again : x ≤ h * at → Walking step cost last rise next at x (slope + more) (count + 1) (left - 1)
+      pub again : x ≤ h * at → Walking step cost last rise next at x (slope + more) (count + 1)
       unfolding isAbove
       again u = record {
         set = w .set;
@@ -335,7 +327,6 @@ module _ (t : TaskSet) (k h : ℕ) where
             let holds = le-ltb (H (counted t) * at) (HD' k (counted t) at) (omega (arith, x-is, top-is)) in
             upto-more _ _ at (w .passed) holds none-large;
         counts = one-more;
-        budgets = omega (arith, w .budgets, w .going);
         few = omega (arith, w .few, w .later);
         low = w .low;
       }

@@ -6,7 +6,6 @@ ghost use lib.ListN.{length};
 ghost use Rattle.model.specs.declared.answers.Verdict.the-variants.{NotShown};
 ghost use Rattle.model.specs.Elements.{places, mostH, mostK, isLegal, isLegalSet, counted};
 ghost use Rattle.model.specs.Superposition.{m, superpositionLengths};
-ghost use Rattle.theory.specs.Approximation.{lengthsOf, budget as the-budget};
 ghost use Rattle.theory.specs.Comparing.{compared, isLargeWith};
 ghost use Rattle.superposition_test.specs.Walk.{Least, Stepped, Limited, Movable, MovedOn, Fit};
 use load::demand_at;
@@ -77,33 +76,6 @@ fn lay_limits(
     }
 }
 
-fn lengths_of(period: Period, k: u64) -> u64
-    ensures { λ r. ⌜ r ≡ lengthsOf k period ⌝ }
-{
-    match period {
-        Period::Once => 1,
-        Period::Every(_) => k,
-    }
-}
-
-// k for each periodic element and one for each single event.
-fn budget(set: TaskSet, k: u64) -> u64
-    requires { ⌜ isLegalSet set ≡ true ⌝ }
-    requires { ⌜ (1 ≤ k) × (k ≤ mostK) ⌝ }
-    ensures { λ r. ⌜ r ≡ the-budget k (counted set) ⌝ }
-{
-    let count = set.count;
-    let mut total: u64 = 0;
-    let mut i: usize = 0;
-    while i < count {
-        let e = set.table[i];
-        let period = e.period;
-        total = total + lengths_of(period, k);
-        i = i + 1;
-    }
-    total
-}
-
 // The cost due at one length, and what the slope rises by there.
 pub(crate) struct Moved {
     pub(crate) cost: u64,
@@ -146,7 +118,7 @@ fn move_on(
     }
 }
 
-// The walk with load at most one: at each step the least next length is compared, under the budget.
+// The walk with load at most one: at each step the least next length is compared, until none is left.
 pub(crate) fn walk(set: TaskSet, k: u64, h: u64) -> Answer
     requires { ⌜ Fit set k h ⌝ }
     ensures { λ r. ⌜ r ≡ compared (counted set) NotShown (superpositionLengths k (counted set)) (isLargeWith k (counted set)) ⌝ }
@@ -162,8 +134,7 @@ pub(crate) fn walk(set: TaskSet, k: u64, h: u64) -> Answer
     let mut scaled: u64 = 0;
     let mut slope: u64 = 0;
     let mut count: u64 = 0;
-    let mut left = budget(set, k);
-    while 0 < left {
+    loop {
         let at = least(&next, set.count);
         if at == NONE_LEFT {
             return Answer::Given(Verdict::Passes { count });
@@ -188,7 +159,5 @@ pub(crate) fn walk(set: TaskSet, k: u64, h: u64) -> Answer
         scaled = sum;
         slope = slope + moved.rise;
         before = at;
-        left = left - 1;
     }
-    Answer::Given(Verdict::Passes { count })
 }

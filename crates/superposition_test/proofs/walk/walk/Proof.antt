@@ -1,22 +1,24 @@
 -- `superposition_test::walk::walk` meets its contract. Assumes nothing.
+use Prim.Native.Nat.{_-_}
 use mathlib.Core.Path.{_≡_, refl, sym, _∙_}
 use native.Mathlib.Omega.{arith}
 use borrow.Author.Needs.{needs}
 use lib.ListN.{length, length-map}
-use Rattle.model.specs.Elements.{places}
+use Rattle.model.specs.Elements.{places, counted}
+use Rattle.theory.specs.Approximation.{budget}
 use Rattle.theory.proofs.PlaceLaws.{legal-places}
 use Rattle.places.proofs.ColumnLaws.{Laid, laid}
 use Rattle.load.proofs.LoadedLaws.{demand-at}
-use Rattle.superposition_test.proofs.WalkLaws.{Walking, Turning, start, none-left, spent, movable, turn, too-large, failing, again}
+use Rattle.superposition_test.proofs.WalkLaws.{Walking, Turning, start, none-left, movable, turn, too-large, failing, again}
 use Rattle.superposition_test.proofs.walk.walk.Statement.{statement}
 use Rattle.superposition_test.proofs.walk.walk.Tie as tie
 
 abbrev Inv-loop : tie.InvT-loop
-Inv-loop set k h next₀ step cost last rise before₀ scaled₀ slope₀ count₀ left₀ next before scaled slope count left =
-    Walking set k h step cost last rise next before scaled slope count left
+Inv-loop set k h next₀ step cost last rise before₀ scaled₀ slope₀ count₀ next before scaled slope count =
+    Walking set k h step cost last rise next before scaled slope count
 
 abbrev μ-loop : tie.MeasureT-loop
-μ-loop set k h next₀ step cost last rise before₀ scaled₀ slope₀ count₀ left₀ next before scaled slope count left = left
+μ-loop set k h next₀ step cost last rise before₀ scaled₀ slope₀ count₀ next before scaled slope count = budget k (counted set) - count
 
 long : (c : tie.Start Inv-loop μ-loop) → length (c .args .set .table) ≡ places
 long c = sym (length-map (c .args .set .table) _) ∙ c .good .0 .1 .1 .1 .0 .1 .0 .1
@@ -36,42 +38,35 @@ lay-limits-requires c κs =
     let p = c .before .before .before .before .before .before .before .pre in
     (p .legal, ((omega (arith, p .low), omega (arith, p .high)), (omega (arith, p .small), (record { steps = columns (c .before .before .before) .steps }, (refl, refl)))))
 
-budget-requires : tie.Need-budget-requires Inv-loop μ-loop
-budget-requires c κs =
-    let p = c .before .before .before .before .before .before .before .before .pre in
-    (p .legal, (omega (arith, p .low), omega (arith, p .high)))
-
 loop-holds : tie.Need-loop-holds Inv-loop μ-loop
 loop-holds c =
-    let s = c .before .before .before .before .before .before .before .before .before in
-    start _ _ _ (legal-places _ (long s) (s .pre .legal)) (s .pre) _ _ _ _ _ _
-    (columns (c .before .before .before .before .before)) (c .before .lay-limits .ensures) (c .budget .ensures)
+    let s = c .before .before .before .before .before .before .before .before in
+    start _ _ _ (legal-places _ (long s) (s .pre .legal)) (s .pre) _ _ _ _ _ (columns (c .before .before .before .before)) (c .lay-limits .ensures)
 
 least-requires : tie.Need-least-requires Inv-loop μ-loop
-least-requires c κs = omega (arith, c .before .before .loop .inv .set .few)
+least-requires c κs = omega (arith, c .before .loop .inv .set .few)
 
 returns : tie.Need-returns Inv-loop μ-loop
-returns c = none-left _ _ _ (c .before .before .before .before .loop .inv) (rw (c .if1 .taken) at (c .before .least .ensures))
+returns c = none-left _ _ _ (c .before .before .before .loop .inv) (rw (c .if1 .taken) at (c .before .least .ensures))
 
 move-on-requires : tie.Need-move-on-requires Inv-loop μ-loop
 move-on-requires c κs =
     let a = c .before .before .before .before .before in
-    movable _ _ _ (a .before .before .before .before .loop .inv) _ (a .before .least .ensures) (omega (arith, a .if1 .left))
+    movable _ _ _ (a .before .before .before .loop .inv) _ (a .before .least .ensures) (omega (arith, a .if1 .left))
 
 -- every place that has the length has moved on
 turned : (c : tie.After-move-on Inv-loop μ-loop) →
     let a = c .before .before .before .before .before .before .before in
-    let l = a .before .before .before in
-    let m = l .before .before in
+    let l = a .before .before in
+    let m = l .before in
     let d = m .before .before .before .before in
     let s = d .before .before .before .before .args in
     Turning (s .set) (s .k) (s .h) (d .lay .last .1 .1 .0) (d .lay .last .1 .1 .1 .0) (m .lay-limits .last .1 .1 .1 .1 .0) (m .lay-limits .last .1 .1 .1 .1 .1 .0)
-    (c .move-on .last .0) (l .loop .before) (l .loop .scaled) (l .loop .slope) (l .loop .count) (l .loop .left)
+    (c .move-on .last .0) (l .loop .before) (l .loop .scaled) (l .loop .slope) (l .loop .count)
     (a .least .result) (c .move-on .result .cost) (c .move-on .result .rise)
 turned c =
     let a = c .before .before .before .before .before .before in
-    turn _ _ _ (a .before .before .before .before .loop .inv) _ (a .before .least .ensures) (omega (arith, a .if1 .left))
-    (c .move-on .ensures) (omega (arith, a .before .before .before .loop-test .taken))
+    turn _ _ _ (a .before .before .before .loop .inv) _ (a .before .least .ensures) (omega (arith, a .if1 .left)) (c .move-on .ensures)
 
 sub-add : tie.Need-sub-add Inv-loop μ-loop
 sub-add c = omega (arith, turned c .later)
@@ -118,20 +113,14 @@ returns-3 c =
 add-slope : tie.Need-add-slope Inv-loop μ-loop
 add-slope c = omega (arith, turned (c .before .before .before .before .before .before) .slope-small)
 
-sub-left : tie.Need-sub-left Inv-loop μ-loop
-sub-left c = omega (arith, turned (c .before .before .before .before .before .before) .going)
-
 loop-less : tie.Need-loop-less Inv-loop μ-loop
-loop-less c = omega (arith, turned (c .before .before .before .before .before .before) .going)
+loop-less c = omega (arith, turned (c .before .before .before .before .before .before) .within)
 
 loop-again : tie.Need-loop-again Inv-loop μ-loop
 loop-again c =
     let s = c .before .before .before in
     again _ _ _ (turned (s .before .before .before)) (sym (s .sum .given .1) ∙ s .before .before .add .ensures)
     (omega (arith, c .before .if2 .left))
-
-returns-4 : tie.Need-returns-4 Inv-loop μ-loop
-returns-4 c = spent _ _ _ (c .before .loop .inv) (omega (arith, c .loop-test .left))
 
 pub walk-spec : {M : Type 1} → statement M
 walk-spec =
@@ -141,7 +130,6 @@ walk-spec =
     μ-loop
     lay-requires
     lay-limits-requires
-    budget-requires
     loop-holds
     least-requires
     returns
@@ -159,7 +147,5 @@ walk-spec =
     demand-at-requires
     returns-3
     add-slope
-    sub-left
     loop-less
-    loop-again
-    returns-4)
+    loop-again)
