@@ -1,22 +1,24 @@
 -- Laws of specs/Load: which way a set goes. Assumes nothing.
-use Prim.Native.Nat.{ℕ, _≤_, _<_}
+use Prim.Native.Nat.{ℕ, _+_, _≤_, _<_}
 use mathlib.Core.Path.{_≡_, refl, sym, subst, _∙_}
 use mathlib.Core.Bool.{true, false, and-false}
 use mathlib.Core.List.{List}
 use mathlib.Core.Logic.{⊎-elim}
+use native.Mathlib.Omega.{arith}
 use borrow.Author.Tests.{lt-ltb, le-ltb, le-leb, lt-leb}
 use Rattle.model.specs.declared.elements.Element.{Element}
 use Rattle.model.specs.declared.elements.TaskSet.{TaskSet}
 use Rattle.model.specs.declared.answers.Refusal.{Refusal}
 use Rattle.model.specs.declared.answers.Check.{Check}
 use Rattle.model.specs.declared.answers.Check.the-variants.{Fine, TurnedAway}
-use Rattle.model.specs.Elements.{mostH, counted, isLegalSet}
+use Rattle.model.specs.Elements.{mostH, AllLegal, counted, isLegalSet}
 use Rattle.model.specs.Demand.{F, H, D, Q}
 use Rattle.model.specs.ExactTest.{overload}
 use Rattle.model.specs.TurnedAway.{unless, _then_, checkSet, firstAbove, checkH}
 use Rattle.model.proofs.Cases.{test, lt-or-le}
 use Rattle.model.proofs.TurnedAwayLaws.{turned-is-not-fine, set-fine}
 use Rattle.theory.specs.Sizes.{mostLength}
+use Rattle.theory.proofs.DemandRepeats.{demand-repeats}
 use Rattle.load.specs.declared.demand.LeastMultiple.{LeastMultiple}
 use Rattle.load.specs.declared.demand.LeastMultiple.the-variants.{Above, Within}
 use Rattle.load.specs.declared.overload.Loaded.{Loaded}
@@ -35,6 +37,10 @@ module _ (s : List Element) where
       (λ (l : mostH < H s). rw (lt-leb (H s) mostH l) (refl, l))
       (λ (l : H s ≤ mostH). rw (le-leb (H s) mostH l) (refl, l))
       (lt-or-le mostH (H s)))
+
+  -- Q
+  pub grows-by-load : (first h : ℕ) → AllLegal s → first ≡ F s → h ≡ H s → D s (first + h) ≡ D s first + Q s
+  grows-by-load first h legal e g = rw (e, g) (demand-repeats s (F s) legal (omega arith))
 
 -- WHICH WAY A SET GOES
 module _ (t : TaskSet) where

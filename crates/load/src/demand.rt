@@ -1,11 +1,10 @@
-// Document 01, "Demand": H, F and Q of a legal set, and D by division.
+// Document 01, "Demand": H and F of a legal set, and D by division.
 ghost use Prim.Native.Nat.{_≤_};
 ghost use mathlib.Core.Path.{_≡_};
 ghost use mathlib.Core.Bool.{true};
 ghost use Rattle.model.specs.Number.{gcd as the-gcd};
 ghost use Rattle.model.specs.Elements.{mostH, isLegal, isPeriod, counted, isLegalSet};
-ghost use Rattle.model.specs.Demand.{F, joined as the-joined, demandOf, D, turns as the-turns, loadIn};
-ghost use Rattle.theory.specs.Growth.{riseOf};
+ghost use Rattle.model.specs.Demand.{F, joined as the-joined, demandOf, D};
 ghost use Rattle.theory.specs.Sizes.{mostLength};
 ghost use Rattle.load.specs.Load.{hyperperiodOf, demandAt};
 use model::Check;
@@ -87,43 +86,6 @@ pub(crate) fn largest_first(set: TaskSet) -> u64
         i = i + 1;
     }
     largest
-}
-
-fn turns(period: Period, h: u64) -> u64
-    requires { ⌜ isPeriod period ≡ true ⌝ }
-    ensures { λ r. ⌜ r ≡ the-turns period h ⌝ }
-{
-    match period {
-        Period::Once => 0,
-        Period::Every(p) => h / (p as u64),
-    }
-}
-
-// What an element asks for in h ticks.
-fn rise_of(e: Element, h: u64) -> u64
-    requires { ⌜ isLegal e ≡ true ⌝ }
-    requires { ⌜ h ≤ mostH ⌝ }
-    ensures { λ r. ⌜ r ≡ riseOf h e ⌝ }
-{
-    let period = e.period;
-    (e.cost as u64) * turns(period, h)
-}
-
-// Q, where h is H.
-pub(crate) fn load_in(set: TaskSet, h: u64) -> u64
-    requires { ⌜ isLegalSet set ≡ true ⌝ }
-    requires { ⌜ h ≤ mostH ⌝ }
-    ensures { λ r. ⌜ r ≡ loadIn (counted set) h ⌝ }
-{
-    let count = set.count;
-    let mut load: u64 = 0;
-    let mut i: usize = 0;
-    while i < count {
-        let e = set.table[i];
-        load = load + rise_of(e, h);
-        i = i + 1;
-    }
-    load
 }
 
 fn demand_of(e: Element, length: u64) -> u64

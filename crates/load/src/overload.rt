@@ -1,8 +1,10 @@
 // What every analysis starts with: the refusals 3 to 8, verdict 2, or F, H and Q.
-ghost use Prim.Native.Nat.{_<_};
+ghost use Prim.Native.Nat.{_≤_, _<_};
 ghost use mathlib.Core.Path.{_≡_};
 ghost use mathlib.Core.Bool.{true};
-ghost use Rattle.model.specs.Elements.{counted, isLegalSet};
+ghost use Rattle.model.specs.Elements.{mostH, counted, isLegalSet};
+ghost use Rattle.model.specs.Demand.{F, Q};
+ghost use Rattle.model.specs.Demand.{H as the-hyperperiod};
 ghost use Rattle.model.specs.ExactTest.{overload as the-overload};
 ghost use Rattle.theory.specs.Sizes.{IsLoad};
 ghost use Rattle.load.specs.Load.{loadedOf};
@@ -10,7 +12,6 @@ use crate::demand::LeastMultiple;
 use crate::demand::demand_in;
 use crate::demand::hyperperiod;
 use crate::demand::largest_first;
-use crate::demand::load_in;
 use model::Check;
 use model::Refusal;
 use model::TaskSet;
@@ -25,6 +26,16 @@ pub enum Loaded {
         hyperperiod: u64,
         load: u64,
     },
+}
+
+// Q: from F on, what demand grows by in a hyperperiod.
+fn load_in(set: TaskSet, first: u64, h: u64) -> u64
+    requires { ⌜ isLegalSet set ≡ true ⌝ }
+    requires { ⌜ (first ≡ F (counted set)) × (h ≡ the-hyperperiod (counted set)) ⌝ }
+    requires { ⌜ h ≤ mostH ⌝ }
+    ensures { λ r. ⌜ r ≡ Q (counted set) ⌝ }
+{
+    demand_in(set, first + h) - demand_in(set, first)
 }
 
 // The first overrun among F, F + H, F + 2H and so on: each brings demand nearer by Q - H.
@@ -59,7 +70,7 @@ pub fn load_of(set: TaskSet) -> Loaded
         LeastMultiple::Above(place) => Loaded::Refused(Refusal { number: 8, place }),
         LeastMultiple::Within(h) => {
             let first = largest_first(set);
-            let q = load_in(set, h);
+            let q = load_in(set, first, h);
             if h < q {
                 return Loaded::AboveOne(overload(set, first, h, q));
             }

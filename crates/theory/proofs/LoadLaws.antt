@@ -28,9 +28,6 @@ module _ (q : Period) (p : ℕ) (eq : q ≡ Every p) where
   unfolding lcm
   joined-is h = rw eq
 
-  pub turns-is : (h : ℕ) → h / p ≡ turns q h
-  turns-is h = rw eq
-
   pub joined-fits : (h : ℕ) → isPeriod q ≡ true → h ≤ mostH → p / gcd p h * h ≤ 18014398509481984
   joined-fits h l b = mul-le-mul {n₂ = 16777216} {m₂ = 1073741824} (omega (arith, div-le-self p (gcd p h), period-within l .1)) b
 

@@ -5,7 +5,7 @@ use native.Mathlib.Omega.{arith}
 use borrow.Author.Needs.{needs}
 use Rattle.model.specs.declared.answers.Check.the-variants.{Fine}
 use Rattle.model.specs.Elements.{mostH, counted}
-use Rattle.model.specs.Demand.{H, Q}
+use Rattle.model.specs.Demand.{H}
 use Rattle.model.specs.TurnedAway.{checkSet}
 use Rattle.model.proofs.TurnedAwayLaws.{set-fine}
 use Rattle.load.proofs.LoadedLaws.{hyperperiod-tells, refused-first, refused-by-8, above-one, at-most-one}
@@ -17,9 +17,6 @@ fine c = sym (c .before .before .check-set .ensures) ∙ c .enum-told .given .1
 
 tells : (c : tie.After-largest-first) → let s = counted (c .before .before .before .before .before .before .before .before .args .set) in (c .before .before .h .given .0 .0 ≡ H s) × (H s ≤ mostH)
 tells c = hyperperiod-tells _ _ (sym (c .before .before .before .before .hyperperiod .ensures) ∙ c .before .before .h .given .1)
-
-loads : (c : tie.After-load-in) → c .load-in .result ≡ Q (counted (c .before .before .before .before .before .before .before .before .before .args .set))
-loads c = rw (← tells (c .before) .0) (c .load-in .ensures)
 
 check-set-requires : tie.Need-check-set-requires
 check-set-requires c κs = search needs
@@ -46,18 +43,20 @@ largest-first-requires : tie.Need-largest-first-requires
 largest-first-requires c κs = set-fine _ .0 (fine (c .before .before .before .before))
 
 load-in-requires : tie.Need-load-in-requires
-load-in-requires c κs = (set-fine _ .0 (fine (c .before .before .before .before .before)), omega (arith, tells c))
+load-in-requires c κs =
+    let k = tells c in
+    (set-fine _ .0 (fine (c .before .before .before .before .before)), ((c .largest-first .ensures, k .0), omega (arith, k)))
 
 overload-requires : tie.Need-overload-requires
 overload-requires c κs =
     let k = tells (c .before .before) in
     let first = c .before .before .largest-first .ensures in
-    (set-fine _ .0 (fine (c .before .before .before .before .before .before .before)), (record { firsts = first; multiple = k .0; load = loads (c .before); small = omega (arith, k .1) }, c .if1 .taken))
+    (set-fine _ .0 (fine (c .before .before .before .before .before .before .before)), (record { firsts = first; multiple = k .0; load = c .before .load-in .ensures; small = omega (arith, k .1) }, c .if1 .taken))
 
 returns-2 : tie.Need-returns-2
 returns-2 c =
     let k = tells (c .before .before .before) in
-    rw (c .overload .ensures) (above-one _ (fine (c .before .before .before .before .before .before .before .before)) (k .1) (omega (arith, k .0, loads (c .before .before), c .before .if1 .taken)))
+    rw (c .overload .ensures) (above-one _ (fine (c .before .before .before .before .before .before .before .before)) (k .1) (omega (arith, k .0, c .before .before .load-in .ensures, c .before .if1 .taken)))
 
 returns-3 : tie.Need-returns-3
 returns-3 c =
@@ -67,8 +66,8 @@ returns-3 c =
 returns-4 : tie.Need-returns-4
 returns-4 c =
     let k = tells (c .before .before) in
-    rw (c .before .before .largest-first .ensures, loads (c .before), k .0)
-    (at-most-one _ (fine (c .before .before .before .before .before .before .before)) (k .1) (omega (arith, k .0, loads (c .before), c .if1 .left)))
+    rw (c .before .before .largest-first .ensures, c .before .load-in .ensures, k .0)
+    (at-most-one _ (fine (c .before .before .before .before .before .before .before)) (k .1) (omega (arith, k .0, c .before .load-in .ensures, c .if1 .left)))
 
 pub load-of-spec : {M : Type 1} → statement M
 load-of-spec =
