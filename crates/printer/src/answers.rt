@@ -5,7 +5,7 @@ ghost use lib.ListN.{length};
 ghost use Rattle.model.specs.Answers.{values};
 ghost use Rattle.model.specs.Buffers.{over};
 ghost use Rattle.printer.specs.Putting.{Puts};
-ghost use Rattle.printer.specs.Answered.{lines, shownOf, textOf, printedOf};
+ghost use Rattle.printer.specs.Answered.{lines, shownOf, printedOf};
 use crate::fields::put_line;
 use crate::fields::put_refused;
 use model::Answer;
