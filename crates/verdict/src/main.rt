@@ -5,7 +5,9 @@ use crate::report::put_verdicts;
 use libc::STDERR_FILENO;
 use libc::STDIN_FILENO;
 use libc::STDOUT_FILENO;
+use model::Check;
 use printer::ROOM;
+use wire::read_set;
 
 // How many bytes were read: as many as there are, up to the buffer's length. -1 where a read failed, since what came before is not the whole input.
 fn read_input(input: &mut [u8]) -> isize {
@@ -48,6 +50,20 @@ fn print(bytes: &[u8]) {
     }
 }
 
+// Says how many elements were judged, so that an input cut between two records is seen; nothing where it is refused.
+fn say_how_many(bytes: &[u8]) {
+    let read = read_set(bytes);
+    let check = read.check;
+    let Check::Fine = check else {
+        return;
+    };
+    let set = read.set;
+    let count = set.count;
+    io::write_all(STDERR_FILENO, b"verdict: elements judged: ");
+    io::print_decimal(STDERR_FILENO, count as u64);
+    io::write_all(STDERR_FILENO, b"\n");
+}
+
 fn main() {
     let mut input = io::buffer();
     let got = read_input(&mut input);
@@ -60,6 +76,7 @@ fn main() {
     }
     let n = io::count(got, &input);
     print(&input[..n]);
+    say_how_many(&input[..n]);
     if n == input.len() {
         read_on();
     }
