@@ -16,7 +16,7 @@
        };
        uint64_t answer[SIMAURKOI_PLACES] = {0};
        uint32_t refusal = simaurkoi_exact(set, sizeof set, answer, SIMAURKOI_PLACES);
-       int keeps_deadlines = refusal == 0 && answer[SIMAURKOI_VERDICT] == SIMAURKOI_PASSES;
+       int passes = refusal == 0 && answer[SIMAURKOI_VERDICT] == SIMAURKOI_PASSES;
 
    THE SET is bytes: no record, or up to 128, one after the other, to the end. A record is a kind byte
    and then whole numbers of ticks, 32 bits each, the least significant byte first.
@@ -25,13 +25,13 @@
        kind 2, comes once               offset, deadline, cost             13 bytes
 
    The period is the least time from one arrival to the next, the offset the time of the first one,
-   the deadline how long after its arrival it must be done, the cost how long the processor works on
-   it at most. Each is from 1 to 16,777,216; an offset may also be 0.
+   counted from time 0, the deadline how long after its arrival it must be done, the cost how long the
+   processor works on it at most. Each is from 1 to 16,777,216; an offset may also be 0.
 
    H, the hyperperiod, is the least common multiple of the periods, 1 if there are none. F is the
    largest sum of an offset and its deadline, 0 for no record. The demand of a length is the work that
-   arrives and is due within that many ticks from time 0. The load is above one where the records of
-   kind 1 bring more than H ticks of work in H ticks.
+   arrives and is due within that many ticks from time 0; windows that open later are not looked at.
+   The load is above one where the records of kind 1 bring more than H ticks of work in H ticks.
 
    THE ANSWER takes six places:
 
@@ -44,13 +44,14 @@
 
    The verdicts:
 
-       0  passes           the demand exceeds no length of any size; interval and demand are 0
+       0  passes           the demand exceeds no length of any size; interval and demand are 0.
+                           A set of no record passes too
        1  overloaded       interval is the least length that its demand exceeds
        2  load above one   interval is the first of F, F + H, F + 2 H and so on that its demand
                            exceeds; count is 0
        3  not shown        this k does not show that the set passes: it may pass all the same.
-                           interval is the length where the test stopped; the set is overloaded
-                           for certain only if demand is more than interval
+                           interval is the length where the test stopped. If demand is more than
+                           interval, the set is overloaded; if not, the exact test tells
 
    The refusals. A place is counted in bytes of the set, from 0:
 
@@ -70,6 +71,17 @@
 
    9 is looked for first. Then the records are checked in their order, each for 1 to 7 in this order,
    and the first refused record decides. Then come 8 and 11 of a test, or 10 of rewriting.
+
+   WHAT A PASS ASSUMES. Proved is that the demand exceeds no length. To mean that EDF keeps every
+   deadline, it takes this as well:
+   - the records describe the densest arrivals from time 0: a window that opens at time 0 is at least
+     as busy as any other of its length. This is not checked yet. A lone record with period 10,
+     offset 3, deadline 4 and cost 5 passes: from time 0 there are 7 ticks for its 5 ticks of work.
+     But from its arrival there are 4, so it is never on time. With offset 0 it is overloaded;
+   - the EDF criterion: where the demand exceeds no length, EDF keeps all deadlines. It is cited from
+     the papers (document 001, see docs/SOURCES.md), and not proved here;
+   - no blocking, no cost of switching, none of interrupts;
+   - no job takes longer than its cost, and none comes sooner than the records say.
 
    WHAT CHANGES. Each function returns the number of the refusal, 0 for none, and puts the six numbers
    into the first six places of answer. Places past six stay as they were. If answer has fewer than
