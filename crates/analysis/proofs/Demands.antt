@@ -1,181 +1,190 @@
--- THE THREE DEMANDS of what the entry points answer, for a set in memory and a set as bytes alike. `exact`, `exact_of_bytes`, `superposition` and
--- `superposition_of_bytes` return `exactOn x` and `superpositionOn k x` by their contracts. Assumes nothing.
+-- THE THREE DEMANDS of whatever the entry points answer, for a set in memory and a set as bytes alike, and of their code. Assumes nothing.
 use Prim.Native.Nat.{ℕ, zero, suc, _+_, _≤_, _<_}
-use mathlib.Core.Path.{_≡_, refl, ap, sym, _∙_}
-use mathlib.Core.Bool.{Bool, false}
+use mathlib.Core.Path.{_≡_, refl, sym, _∙_}
+use mathlib.Core.Bool.{Bool, true, false, _&&_}
 use mathlib.Core.List.{List}
-use mathlib.Core.Logic.{_⊎_, ⊎-elim, _↔_}
+use mathlib.Core.Logic.{⊎-elim}
 use native.Mathlib.Omega.{arith}
-use lib.Dec.{ltb}
-use lib.ListN.{length, take}
-use lib.Seq.{take-all}
-use borrow.Author.Tests.{le-leb, lt-leb, ltb-true, ltb-false}
+use lib.Dec.{leb}
+use borrow.Author.Tests.{leb-true, le-leb, le-ltb}
+use denote.Ref.{now}
 use Rattle.model.specs.declared.elements.Element.{Element}
-use Rattle.model.specs.declared.answers.Check.{Check}
-use Rattle.model.specs.declared.answers.Check.the-variants.{Fine, TurnedAway}
+use Rattle.model.specs.declared.elements.TaskSet.{TaskSet}
+use Rattle.model.specs.declared.answers.Check.the-variants.{Fine}
 use Rattle.model.specs.declared.answers.Verdict.{Verdict}
 use Rattle.model.specs.declared.answers.Verdict.the-variants.{Passes}
+use Rattle.model.specs.declared.answers.Answer.{Answer}
 use Rattle.model.specs.declared.answers.Answer.the-variants.{Given}
 use Rattle.model.specs.Number.{howMany}
-use Rattle.model.specs.Elements.{places, mostH, mostK, AllLegal}
+use Rattle.model.specs.Elements.{mostH, AllLegal, Same}
 use Rattle.model.specs.Demand.{F, H, D, Q, isTest}
 use Rattle.model.specs.Answers.{values}
-use Rattle.model.specs.ExactTest.{exact}
+use Rattle.model.specs.ExactTest.{exactLengths, stop, exact}
 use Rattle.model.specs.Superposition.{superposition}
-use Rattle.model.specs.TurnedAway.{unless, _then_, firstAbove, checkH, checkK, exactIsLarge, superpositionIsLarge, analysis, exactAnswer, superpositionAnswer}
-use Rattle.theory.specs.Exactness.{Overloaded, ShowsTheSmallest, ShowsTheFirst}
-use Rattle.theory.specs.Approximation.{budget, NearOverrun, HoldsBack, Accepts}
-use Rattle.model.proofs.Cases.{test, lt-or-le}
-use Rattle.model.proofs.NumberLaws.{least-is}
-use Rattle.model.proofs.ElementLaws.{Within}
-use Rattle.model.proofs.TurnedAwayLaws.{then-fine, k-fine}
+use Rattle.model.specs.TurnedAway.{unless, _then_, checkH, checkK, isLargeAt, meetsLarge, exactIsLarge, superpositionIsLarge, analysis}
+use Rattle.model.specs.Promises.{Promises}
+use Rattle.model.proofs.Cases.{lt-or-le}
+use Rattle.model.proofs.NumberLaws.{none-below}
+use Rattle.model.proofs.TurnedAwayLaws.{then-fine, unless-fine, k-fine, not-large}
+use Rattle.model.proofs.PromiseLaws.{promises-what-follows}
 use Rattle.theory.proofs.DemandRests.{demand-at-zero}
+use Rattle.theory.specs.Exactness.{Overloaded}
+use Rattle.theory.proofs.SizeLaws.{first-small}
 use Rattle.theory.proofs.OverloadShowsTheFirst.{exact-shows-the-first, superposition-shows-the-first}
 use Rattle.theory.proofs.ExactShowsTheSmallest.{overloaded-exactly-when, shows-the-smallest, otherwise-passes}
 use Rattle.theory.proofs.SuperpositionAnswers.{superposition-answers}
 use Rattle.theory.proofs.SuperpositionIsSafe.{no-overrun-if-superposition-accepts}
 use Rattle.theory.proofs.SuperpositionIsClose.{near-overrun-if-superposition-holds-back}
 use Rattle.theory.proofs.SuperpositionIsShort.{compares-at-most}
-use Rattle.theory.proofs.TakenSetsAreLegal.{verdict-is, fine-is-legal}
-use Rattle.wire.proofs.ReadingLaws.{elements-legal}
-use Rattle.analysis.specs.InBytes.{exactOfBytes, superpositionOfBytes}
-use Rattle.analysis.specs.Demands.{Input, in-memory, as-bytes, elements, checkInput, placeIn, exactOn, superpositionOn, BringsHAbove, Ends, refused-first, refused-by-8, refused-by-11, given}
+use Rattle.theory.proofs.TakenSetsAreLegal.{verdict-is}
+use Rattle.theory.proofs.NothingPastTheCount.{same-exact-answer, same-superposition-answer}
+use Rattle.exact_test.specs.Contracts.{ExactSays}
+use Rattle.exact_test.proofs.exact as exact-function
+use Rattle.exact_test.proofs.Outcomes.{exact-keeps}
+use Rattle.superposition_test.specs.Contracts.{SuperpositionSays}
+use Rattle.superposition_test.proofs.superposition as superposition-function
+use Rattle.superposition_test.proofs.Outcomes.{superposition-keeps}
+use Rattle.analysis.specs.Demands.{Input, in-memory, as-bytes, elements, placeIn, ExactSaysOf, SuperpositionSaysOf, MeetsDemand2, MeetsDemand3, ExactMeets, SuperpositionMeets}
+use Rattle.analysis.proofs.bytes
+use Rattle.analysis.proofs.HowAnAnalysisEnds.{checkInput, input-legal, exact-on, exact-ends, superposition-on, superposition-ends}
+use Rattle.analysis.proofs.Outcomes.{exact-of-bytes-keeps, superposition-of-bytes-keeps}
 
-no-periods : (s : List Element) → H (take 0 s) ≡ 1
-unfolding H
-no-periods s = refl
+-- OF ELEMENTS THAT ARE LEGAL
+module _ (s : List Element) (legal : AllLegal s) where
+  positive : (I : ℕ) → I < D s I → 1 ≤ I
+  positive zero o = absurd (omega (arith, demand-at-zero s legal))
+  positive (suc I) o = omega arith
 
--- what the entry points answer is an analysis of the input's elements
-exact-on : (x : Input) → exactOn x ≡ analysis (checkInput x) (placeIn x) exactIsLarge exact (elements x)
-unfolding exactAnswer exactOfBytes
-exact-on (in-memory t) = refl
-exact-on (as-bytes b) = refl
-
-superposition-on : (k : ℕ) (x : Input) → superpositionOn k x ≡ analysis (checkK k then checkInput x) (placeIn x) (superpositionIsLarge k) (superposition k) (elements x)
-unfolding superpositionAnswer superpositionOfBytes
-superposition-on k (in-memory t) = refl
-superposition-on k (as-bytes b) = refl
-
-input-legal : (x : Input) → checkInput x ≡ Fine → AllLegal (elements x) × (length (elements x) ≤ places)
-input-legal (in-memory t) h = fine-is-legal t h
-input-legal (as-bytes b) h = elements-legal places 0 b h
-
--- DEMAND 1: "Every input gets a defined end: a verdict, or one numbered refusal with its place."
-first-above : (s : List Element) → mostH < H s → BringsHAbove s (firstAbove s)
-unfolding firstAbove
-first-above s h = ⊎-elim
-    (λ w. record { within = w .0; above = ltb-true mostH (H (take (suc (firstAbove s)) s)) (w .1 .passes); before = below (firstAbove s) (w .1 .none) })
-    (λ w. absurd (nowhere (length s) refl (w .1)))
-    (least-is (λ i. ltb mostH (H (take (suc i) s))) (length s))
-  where
-    below : (i : ℕ) → ((j : ℕ) → j < i → ltb mostH (H (take (suc j) s)) ≡ false) → (j : ℕ) → j ≤ i → H (take j s) ≤ mostH
-    below i none zero l = omega (arith, no-periods s)
-    below i none (suc j) l = ltb-false mostH (H (take (suc j) s)) (none j (omega arith))
-
-    nowhere : (n : ℕ) → n ≡ length s → ((j : ℕ) → j < n → ltb mostH (H (take (suc j) s)) ≡ false) → ⊥
-    nowhere zero e none = let z = take-all 0 s (omega arith) in omega (arith, no-periods s, ap H z)
-    nowhere (suc n) e none = let z = take-all (suc n) s (omega arith) in omega (arith, ltb-false mostH (H (take (suc n) s)) (none n (omega arith)), ap H z)
-
-module _ (before : Check) (place : ℕ → ℕ) (large : List Element → Bool) (verdict : List Element → Verdict) (s : List Element) where
-  ends : Ends before place s (large s) (verdict s) (analysis before place large verdict s)
-  unfolding analysis checkH unless
-  ends = go before refl
-    where
-      go : (c : Check) → before ≡ c → Ends before place s (large s) (verdict s) (analysis c place large verdict s)
-      go (TurnedAway r) e = refused-first r e
-      go Fine e = ⊎-elim
-          (λ (h : mostH < H s). rw (lt-leb (H s) mostH h) (refused-by-8 (firstAbove s) e (first-above s h)))
-          (λ (h : H s ≤ mostH). rw (le-leb (H s) mostH h) (⊎-elim
-          (λ l. rw l (refused-by-11 e h refl))
-          (λ l. rw l (given e h refl))
-          (test (large s))))
-          (lt-or-le mostH (H s))
-
--- THEOREM: the exact test ends with a refusal that the input's checks give; with 8, at the first element that brings H above its limit; with 11;
--- or with its verdict; each exactly then
-pub exact-ends : (x : Input) → Ends (checkInput x) (placeIn x) (elements x) (exactIsLarge (elements x)) (exact (elements x)) (exactOn x)
-exact-ends x = rw (exact-on x) (ends (checkInput x) (placeIn x) exactIsLarge exact (elements x))
-
--- THEOREM: so does superposition, which looks at k first
-pub superposition-ends :
-    (k : ℕ) (x : Input) →
-    Ends (checkK k then checkInput x) (placeIn x) (elements x) (superpositionIsLarge k (elements x)) (superposition k (elements x)) (superpositionOn k x)
-superposition-ends k x = rw (superposition-on k x) (ends (checkK k then checkInput x) (placeIn x) (superpositionIsLarge k) (superposition k) (elements x))
-
--- DEMAND 2
-module _ (x : Input) (v : Verdict) (answer : exactOn x ≡ Given v) where
-  abbrev s : List Element
-  s = elements x
-
-  exact-verdict : AllLegal s × (v ≡ exact s)
-  exact-verdict =
-      let g = verdict-is (checkInput x) (placeIn x) exactIsLarge exact s v (sym (exact-on x) ∙ answer) in
-      (input-legal x (g .0) .0, g .2)
-
-  -- THEOREM: with load at most one the exact test says overloaded exactly when some length of any size has more demand than length
-  pub exact-says-overloaded-exactly-when : Q s ≤ H s → (values v .verdict ≡ 1) ↔ Overloaded s
-  exact-says-overloaded-exactly-when load = rw (exact-verdict .1) (overloaded-exactly-when s (exact-verdict .0) load)
-
-  -- THEOREM: and shows the smallest
-  pub exact-shows-the-smallest : Q s ≤ H s → values v .verdict ≡ 1 → ShowsTheSmallest s (values v)
-  exact-shows-the-smallest load = rw (exact-verdict .1) (shows-the-smallest s (exact-verdict .0) load)
-
-  -- THEOREM: otherwise it passes, every test length below F + H compared
-  pub exact-passes-otherwise : Q s ≤ H s → (Overloaded s → ⊥) → v ≡ Passes (howMany (isTest s) (F s + H s))
-  exact-passes-otherwise load none = exact-verdict .1 ∙ otherwise-passes s (exact-verdict .0) load none
-
-  -- THEOREM: load above one is shown by an overrun too, the first among F, F + H, F + 2H and so on
-  pub exact-shows-load-above-one : H s < Q s → ShowsTheFirst s (values v)
-  exact-shows-load-above-one over = rw (exact-verdict .1) (exact-shows-the-first s (exact-verdict .0) over)
-
-  -- THEOREM: if it passes, whatever the load, demand exceeds no length at all
-  pub no-overrun-if-passed : values v .verdict ≡ 0 → (I : ℕ) → D s I ≤ I
+  no-overrun-if-passed : values (exact s) .verdict ≡ 0 → (I : ℕ) → D s I ≤ I
   no-overrun-if-passed passed I = ⊎-elim
-      (λ over. absurd (omega (arith, exact-shows-load-above-one over .verdict)))
+      (λ over. absurd (omega (arith, exact-shows-the-first s legal over .verdict)))
       (λ load. ⊎-elim
-      (λ (o : I < D s I). absurd (omega (arith, exact-says-overloaded-exactly-when load .1 (I, positive I o, o))))
+      (λ (o : I < D s I). absurd (omega (arith, overloaded-exactly-when s legal load .1 (I, positive I o, o))))
       (λ (o : D s I ≤ I). o)
       (lt-or-le I (D s I)))
       (lt-or-le (H s) (Q s))
-    where
-      positive : (J : ℕ) → J < D s J → 1 ≤ J
-      positive zero o = absurd (omega (arith, demand-at-zero s (exact-verdict .0)))
-      positive (suc J) o = omega arith
 
--- DEMAND 3
-module _ (k : ℕ) (x : Input) (v : Verdict) (answer : superpositionOn k x ≡ Given v) where
-  abbrev es : List Element
-  es = elements x
+  exact-verdict-meets : MeetsDemand2 s (exact s)
+  exact-verdict-meets = record {
+    overloaded-exactly-when = overloaded-exactly-when s legal;
+    shows-the-smallest = shows-the-smallest s legal;
+    passes-otherwise = otherwise-passes s legal;
+    shows-load-above-one = exact-shows-the-first s legal;
+    no-overrun-if-passed = no-overrun-if-passed;
+  }
 
-  superposition-verdict : AllLegal es × Within 1 mostK k × (v ≡ superposition k es)
-  superposition-verdict =
-      let g = verdict-is (checkK k then checkInput x) (placeIn x) (superpositionIsLarge k) (superposition k) es v (sym (superposition-on k x) ∙ answer) in
-      let f = then-fine (checkK k) (checkInput x) .0 (g .0) in
-      (input-legal x (f .1) .0, k-fine k (f .0), g .2)
+  module _ (k : ℕ) (low : 1 ≤ k) where
+    no-overrun-if-accepted : values (superposition k s) .verdict ≡ 0 → (I : ℕ) → D s I ≤ I
+    no-overrun-if-accepted accepted = ⊎-elim
+        (λ over. absurd (omega (arith, superposition-shows-the-first s k legal over .verdict)))
+        (λ load. no-overrun-if-superposition-accepts k s legal low load accepted)
+        (lt-or-le (H s) (Q s))
 
-  -- THEOREM: with load at most one it compares at most k lengths for each periodic element and one for each single event
-  pub superposition-compares-at-most : Q es ≤ H es → values v .count ≤ budget k es
-  superposition-compares-at-most load =
-      rw (superposition-verdict .2) (compares-at-most k es (superposition-verdict .0) (superposition-verdict .1 .0) load)
+    superposition-verdict-meets : MeetsDemand3 k s (superposition k s)
+    superposition-verdict-meets = record {
+      compares-at-most = compares-at-most k s legal low;
+      holds-back-or-accepts = superposition-answers k s;
+      no-overrun-if-accepted = no-overrun-if-accepted;
+      near-overrun-if-held-back = near-overrun-if-superposition-holds-back k s legal low;
+      shows-load-above-one = superposition-shows-the-first s k legal;
+    }
 
-  -- THEOREM: it holds back at the first visited length with D'(I) > I, or accepts where there is none; its count is of the distinct visited lengths
-  pub superposition-holds-back-or-accepts : Q es ≤ H es → HoldsBack k es (values v) ⊎ Accepts k es (values v)
-  superposition-holds-back-or-accepts load = rw (superposition-verdict .2) (superposition-answers k es load)
+-- OF WHATEVER THEY ANSWER
+-- a verdict that is given is the definition's, of elements that are legal
+exact-verdict : (x : Input) (a : Answer) → ExactSaysOf x a → (v : Verdict) → a ≡ Given v → AllLegal (elements x) × (v ≡ exact (elements x))
+exact-verdict x a says v e =
+    let g = verdict-is (checkInput x) (placeIn x) exactIsLarge exact (elements x) v (sym (exact-on x a says) ∙ e) in
+    (input-legal x (g .0) .0, g .2)
 
-  -- THEOREM: if it holds back at a length, exact demand there, times k + 1, is more than k times the length; and that demand is shown
-  pub near-overrun-if-held-back : Q es ≤ H es → values v .verdict ≡ 3 → NearOverrun k es (values v .interval) × (values v .demand ≡ D es (values v .interval))
-  near-overrun-if-held-back load =
-      rw (superposition-verdict .2) (near-overrun-if-superposition-holds-back k es (superposition-verdict .0) (superposition-verdict .1 .0) load)
+superposition-verdict :
+    (x : Input) (k : ℕ) (a : Answer) →
+    SuperpositionSaysOf x k a → (v : Verdict) → a ≡ Given v →
+    (checkInput x ≡ Fine) × (checkH (placeIn x) (elements x) ≡ Fine) × (1 ≤ k) × (v ≡ superposition k (elements x))
+superposition-verdict x k a says v e =
+    let g = verdict-is (checkK k then checkInput x) (placeIn x) (superpositionIsLarge k) (superposition k) (elements x) v (sym (superposition-on x k a says) ∙ e) in
+    let f = then-fine (checkK k) (checkInput x) .0 (g .0) in
+    (f .1, g .1, k-fine k (f .0) .0, g .2)
 
-  -- THEOREM: load above one it shows as the exact test does
-  pub superposition-shows-load-above-one : H es < Q es → ShowsTheFirst es (values v)
-  superposition-shows-load-above-one over = rw (superposition-verdict .2) (superposition-shows-the-first es k (superposition-verdict .0) over)
+-- THEOREM: the exact test
+pub exact-meets : (x : Input) (a : Answer) → ExactSaysOf x a → ExactMeets x a
+exact-meets x a says = record { ends = exact-ends x a says; verdict = λ v e. let w = exact-verdict x a says v e in rw (w .1) (exact-verdict-meets (elements x) (w .0)) }
 
-  -- THEOREM: if it accepts, whatever the load, exact demand exceeds no length at all
-  pub no-overrun-if-accepted : values v .verdict ≡ 0 → (I : ℕ) → D es I ≤ I
-  no-overrun-if-accepted accepted = ⊎-elim
-      (λ over. absurd (omega (arith, superposition-shows-load-above-one over .verdict)))
-      (λ load.
-      let w = superposition-verdict in
-      no-overrun-if-superposition-accepts k es (w .0) (w .1 .0) load (ap (λ u. values u .verdict) (sym (w .2)) ∙ accepted))
-      (lt-or-le (H es) (Q es))
+-- THEOREM: superposition
+pub superposition-meets : (x : Input) (k : ℕ) (a : Answer) → SuperpositionSaysOf x k a → SuperpositionMeets x k a
+superposition-meets x k a says = record {
+  ends = superposition-ends x k a says;
+  verdict = λ v e.
+      let w = superposition-verdict x k a says v e in
+      rw (w .3) (superposition-verdict-meets (elements x) (input-legal x (w .0) .0) k (w .2));
+}
+
+-- THE TWO TESTS TOGETHER
+never : (b : Bool) → (b && false) ≡ false
+never true = refl
+never false = refl
+
+-- where there is no overrun, the exact test meets no number above 64 bits
+module _ (s : List Element) (legal : AllLegal s) (small : H s ≤ mostH) (load : Q s ≤ H s) (none : (I : ℕ) → D s I ≤ I) where
+  fits-below : (I : ℕ) → I < stop (exactLengths s) → (isTest s I && isLargeAt s I) ≡ false
+  unfolding stop isLargeAt
+  fits-below I l =
+      let low = first-small s legal in
+      rw (not-large I (omega arith), not-large (D s I) (omega (arith, none I))) (never (isTest s I))
+
+  exact-fits : exactIsLarge s ≡ false
+  unfolding exactIsLarge meetsLarge
+  exact-fits = rw (not-large (Q s) (omega arith), le-ltb (H s) (Q s) load, none-below (λ I. isTest s I && isLargeAt s I) (stop (exactLengths s)) fits-below) refl
+
+  not-overloaded : Overloaded s → ⊥
+  not-overloaded o = omega (arith, none (o .0), o .2)
+
+-- THEOREM: if superposition passes an input, with any k, the exact test does
+pub exact-passes-if-superposition-does :
+    (x : Input) (k : ℕ) (a b : Answer) →
+    SuperpositionSaysOf x k a → ExactSaysOf x b →
+    (v : Verdict) → a ≡ Given v → values v .verdict ≡ 0 →
+    b ≡ Given (Passes (howMany (isTest (elements x)) (F (elements x) + H (elements x))))
+unfolding analysis checkH unless
+exact-passes-if-superposition-does x k a b p q v e passed =
+    let s = elements x in
+    let w = superposition-verdict x k a p v e in
+    let legal = input-legal x (w .0) .0 in
+    let meets = superposition-meets x k a p .verdict v e in
+    let none = meets .no-overrun-if-accepted passed in
+    let small : H s ≤ mostH = leb-true (H s) mostH (unless-fine (leb (H s) mostH) 8 _ .0 (w .1)) in
+    let load : Q s ≤ H s = ⊎-elim (λ over. absurd (omega (arith, meets .shows-load-above-one over .verdict))) (λ load. load) (lt-or-le (H s) (Q s)) in
+    exact-on x b q
+    ∙ rw (w .0, le-leb (H s) mostH small, exact-fits s legal small load none, otherwise-passes s legal load (not-overloaded s legal small load none)) refl
+
+-- "Nothing past the count affects any answer"
+module _ (t u : TaskSet) (same : Same t u) (a b : Answer) where
+  -- THEOREM
+  pub same-sets-same-exact : ExactSays t a → ExactSays u b → a ≡ b
+  same-sets-same-exact p q = p ∙ same-exact-answer t u same ∙ sym q
+
+  -- THEOREM
+  pub same-sets-same-superposition : (k : ℕ) → SuperpositionSays t k a → SuperpositionSays u k b → a ≡ b
+  same-sets-same-superposition k p q = p ∙ same-superposition-answer t u same k ∙ sym q
+
+-- OF THEIR CODE: for every argument each ends, and what it returns meets the demands
+-- THEOREM
+pub exact-code-meets : Promises exact-function.ended exact-function.Symbol.routine (λ κs given r after. ExactMeets (in-memory (given .0)) r)
+exact-code-meets = promises-what-follows (λ κs given r after. exact-meets (in-memory (given .0)) r) exact-keeps
+
+-- THEOREM
+pub exact-of-bytes-code-meets :
+    Promises bytes.exact_of_bytes.ended bytes.exact_of_bytes.Symbol.routine (λ κs given r after. ExactMeets (as-bytes (now (given .0))) r)
+exact-of-bytes-code-meets = promises-what-follows (λ κs given r after. exact-meets (as-bytes (now (given .0))) r) exact-of-bytes-keeps
+
+-- THEOREM
+pub superposition-code-meets :
+    Promises superposition-function.ended superposition-function.Symbol.routine (λ κs given r after. SuperpositionMeets (in-memory (given .0)) (given .1 .0) r)
+superposition-code-meets =
+    promises-what-follows (λ κs given r after. superposition-meets (in-memory (given .0)) (given .1 .0) r) superposition-keeps
+
+-- THEOREM
+pub superposition-of-bytes-code-meets :
+    Promises bytes.superposition_of_bytes.ended bytes.superposition_of_bytes.Symbol.routine (λ κs given r after.
+    SuperpositionMeets (as-bytes (now (given .0))) (given .1 .0) r)
+superposition-of-bytes-code-meets =
+    promises-what-follows (λ κs given r after. superposition-meets (as-bytes (now (given .0))) (given .1 .0) r) superposition-of-bytes-keeps

@@ -1,6 +1,7 @@
 pub mod ByteLaws
 pub mod EntryLaws
-pub mod Demands
+pub mod HowAnAnalysisEnds
 pub mod Outcomes
+pub mod Demands
 pub mod BytesAgree
 pub mod EdgesInBytes

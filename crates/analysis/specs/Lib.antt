@@ -1,3 +1,4 @@
 pub mod InBytes
 pub mod LegalSets
+pub mod Contracts
 pub mod Demands

@@ -5,8 +5,9 @@ ghost use lib.ListN.{length};
 ghost use Rattle.model.specs.Elements.{places};
 ghost use Rattle.model.specs.declared.answers.Check.the-variants.{Fine};
 ghost use Rattle.wire.specs.Reading.{checkRecords, elementsIn};
-ghost use Rattle.analysis.specs.InBytes.{kindByte, exactOfBytes, superpositionOfBytes};
+ghost use Rattle.analysis.specs.InBytes.{kindByte};
 ghost use Rattle.analysis.specs.LegalSets.{inBytes, Placed};
+ghost use Rattle.analysis.specs.Contracts.{ExactOfBytesSays, SuperpositionOfBytesSays};
 use exact_test::exact;
 use model::Answer;
 use model::Check;
@@ -52,7 +53,7 @@ fn in_bytes(bytes: &[u8], answer: Answer) -> Answer
 
 // The exact test.
 pub fn exact_of_bytes(bytes: &[u8]) -> Answer
-    ensures { λ r. ⌜ r ≡ exactOfBytes (now (bytes .entry)) ⌝ }
+    ensures { λ r. ⌜ ExactOfBytesSays (now (bytes .entry)) r ⌝ }
 {
     let read = read_set(bytes);
     let of_records = read.check;
@@ -65,7 +66,7 @@ pub fn exact_of_bytes(bytes: &[u8]) -> Answer
 
 // Superposition: k is looked at first.
 pub fn superposition_of_bytes(bytes: &[u8], k: u32) -> Answer
-    ensures { λ r. ⌜ r ≡ superpositionOfBytes k (now (bytes .entry)) ⌝ }
+    ensures { λ r. ⌜ SuperpositionOfBytesSays (now (bytes .entry)) k r ⌝ }
 {
     if let Check::TurnedAway(r) = check_k(k) {
         return Answer::Refused(r);

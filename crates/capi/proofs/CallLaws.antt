@@ -13,7 +13,7 @@ use Rattle.writer.specs.declared.writing.Written.the-variants.{Refused}
 use Rattle.wire.specs.Reading.{readSet}
 use Rattle.model.specs.Buffers.{over}
 use Rattle.writer.specs.Writing.{writeSet, bufferAfter}
-use Rattle.capi.specs.Calls.{six, returned, answerAfter, Ends, rewrite, rewritten, outAfter}
+use Rattle.capi.specs.Calls.{six, returned, answerAfter, CallAnswers, rewrite, rewritten, outAfter}
 
 pub six-stores :
     (l : List ℕ) (a b c d e f : ℕ) →
@@ -23,7 +23,7 @@ six-stores l a b c d e f h = sets-eq (a ∷ b ∷ c ∷ d ∷ e ∷ f ∷ []) l 
 
 -- THE ANSWER
 module _ (n : Numbers) (answer : List ℕ) where
-  pub too-few : length answer < 6 → Ends n answer 10 answer
+  pub too-few : length answer < 6 → CallAnswers n answer 10 answer
   unfolding returned answerAfter
   too-few h = let few = lt-leb 6 (length answer) h in (rw few, rw few)
 
@@ -31,7 +31,7 @@ module _ (n : Numbers) (answer : List ℕ) where
       {r : ℕ} {after : List ℕ} →
       6 ≤ length answer →
       (r ≡ n .refusal) × (after ≡ over (six n) answer) →
-      Ends n answer r after
+      CallAnswers n answer r after
   unfolding returned answerAfter
   answered h p = let enough = le-leb 6 (length answer) h in (p .0 ∙ rw enough, p .1 ∙ rw enough)
 

@@ -25,7 +25,7 @@ module _ (b out : List ℕ) where
       length b ≤ length out →
       (rewrite b (length out) ≡ Bytes (length b)) × (rewritten b out ≡ over b out)
   set-is-copied h c long =
-      let done = read-then-write b out h c long in
+      let done = read-then-write b (readSet b) out _ _ h refl c long (refl, refl) in
       let same = read-fine b out c (refl, refl) in
       (sym (same .0) ∙ done .0, sym (same .1) ∙ done .1)
 
@@ -38,9 +38,9 @@ module _ (b out : List ℕ) where
   set-without-room h c short =
       let its = read-has-its-bytes b h c in
       let lacks : HasNoRoom (readSet b .set) (length out) 10 (length b) = record { legal = its .0; by = refl; at = ap length (sym (its .1)); short = short } in
-      let refused = set-is-not-written (readSet b .set) 10 (length b) (length out) .1 (inr (inr lacks)) in
+      let refused = set-is-not-written (readSet b .set) 10 (length b) (length out) .1 (inr lacks) in
       let same = read-fine b out c (refl, refl) in
-      (sym (same .0) ∙ refused, sym (same .1) ∙ refused-write-changes-nothing (readSet b .set) out _ refused)
+      (sym (same .0) ∙ refused, sym (same .1) ∙ refused-write-changes-nothing (readSet b .set) out _ _ (refl, refl) _ refused)
 
   -- THEOREM: bytes that are no set get the reader's refusal, and nothing is changed
   pub no-set : (r : Refusal) → readSet b .check ≡ TurnedAway r → (rewrite b (length out) ≡ Refused r) × (rewritten b out ≡ out)

@@ -27,8 +27,8 @@ unfoldable pub answerAfter : Numbers → List ℕ → List ℕ
 answerAfter n answer = cond (leb 6 (length answer)) (over (six n) answer) answer
 
 -- how a call ends that answers these numbers: what it returns, and the places it was lent
-abbrev pub Ends : Numbers → List ℕ → ℕ → List ℕ → Type 0
-Ends n before r after = (r ≡ returned n before) × (after ≡ answerAfter n before)
+abbrev pub CallAnswers : Numbers → List ℕ → ℕ → List ℕ → Type 0
+CallAnswers n before r after = (r ≡ returned n before) × (after ≡ answerAfter n before)
 
 -- REWRITING: the reader's refusal, or what the writer answers for the set that was read
 abbrev pub unlessTurnedAway : Check → Written → Written

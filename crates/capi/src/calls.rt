@@ -1,9 +1,8 @@
 // The calls from C. A slice is a pointer and a length there, in this order.
 ghost use mathlib.Core.Path.{_≡_};
 ghost use lib.ListN.{length};
-ghost use Rattle.model.specs.Answers.{numbers};
-ghost use Rattle.analysis.specs.InBytes.{exactOfBytes, superpositionOfBytes};
-ghost use Rattle.capi.specs.Calls.{Ends, rewrite, rewriteNumbers, rewritten, outAfter};
+ghost use Rattle.capi.specs.Calls.{rewrite, rewritten};
+ghost use Rattle.capi.specs.Contracts.{ExactCallSays, SuperpositionCallSays, RewriteCallSays};
 use crate::answers::numbers_of;
 use crate::answers::put_numbers;
 use crate::answers::rewrite_numbers;
@@ -21,7 +20,7 @@ const TOO_FEW_PLACES: u32 = 10;
 
 #[no_mangle]
 pub extern "C" fn simaurkoi_exact(set: &[u8], answer: &mut [u64]) -> u32
-    ensures { λ r. ⌜ Ends (numbers (exactOfBytes (now (set .entry)))) (now (answer .entry)) r (now (answer .exit)) ⌝ }
+    ensures { λ r. ⌜ ExactCallSays (now (set .entry)) (now (answer .entry)) r (now (answer .exit)) ⌝ }
 {
     if answer.len() < ANSWER_PLACES {
         return TOO_FEW_PLACES;
@@ -33,7 +32,7 @@ pub extern "C" fn simaurkoi_exact(set: &[u8], answer: &mut [u64]) -> u32
 
 #[no_mangle]
 pub extern "C" fn simaurkoi_superposition(set: &[u8], k: u32, answer: &mut [u64]) -> u32
-    ensures { λ r. ⌜ Ends (numbers (superpositionOfBytes k (now (set .entry)))) (now (answer .entry)) r (now (answer .exit)) ⌝ }
+    ensures { λ r. ⌜ SuperpositionCallSays (now (set .entry)) k (now (answer .entry)) r (now (answer .exit)) ⌝ }
 {
     if answer.len() < ANSWER_PLACES {
         return TOO_FEW_PLACES;
@@ -56,7 +55,7 @@ fn read_then_write(set: &[u8], out: &mut [u8]) -> Written
 
 #[no_mangle]
 pub extern "C" fn simaurkoi_rewrite(set: &[u8], out: &mut [u8], answer: &mut [u64]) -> u32
-    ensures { λ r. ⌜ Ends (rewriteNumbers (rewrite (now (set .entry)) (length (now (out .entry))))) (now (answer .entry)) r (now (answer .exit)) × (now (out .exit) ≡ outAfter (now (set .entry)) (now (out .entry)) (now (answer .entry))) ⌝ }
+    ensures { λ r. ⌜ RewriteCallSays (now (set .entry)) (now (out .entry)) (now (answer .entry)) r (now (out .exit)) (now (answer .exit)) ⌝ }
 {
     if answer.len() < ANSWER_PLACES {
         return TOO_FEW_PLACES;

@@ -27,7 +27,7 @@ use Rattle.theory.specs.Comparing.{compared, lengthsBelow}
 use Rattle.theory.specs.Places.{elementAt}
 use Rattle.places.specs.Columns.{mostBound}
 use Rattle.places.proofs.ColumnLaws.{Laid}
-use Rattle.exact_test.specs.Segments.{isDate, ticks, IsWord, Marked, Fit, Full, sweepOf, total, Zero}
+use Rattle.exact_test.specs.Segments.{isDate, ticks, IsWord, Marked, Addable, Full, sweepOf, total, Zero}
 use Rattle.theory.proofs.PlaceLaws.{LegalPlaces}
 use Rattle.theory.proofs.ComparingLaws.{Upto, upto-zero, upto-gap, compared-clear}
 use Rattle.exact_test.proofs.DateLaws.{date-before}
@@ -39,7 +39,7 @@ pub record Stage (t : TaskSet) (bound : ℕ) (next step cost due marks : List �
   pub set : LegalPlaces t
   pub low : bound ≤ mostBound
   pub up : 1 ≤ base
-  pub fit : Fit next step cost (t .count) base
+  pub fit : Addable next step cost (t .count) base
   pub dates : (i : ℕ) → i < t .count → (I : ℕ) → base ≤ I → I < bound → isTestOf (elementAt t i) I ≡ isDate (getD next i 0) (getD step i 0) I
   pub costs : (i : ℕ) → i < t .count → getD cost i 0 ≡ elementAt t i .cost
   pub zero : Zero due

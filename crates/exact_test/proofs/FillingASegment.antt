@@ -9,7 +9,7 @@ use lib.Seq.{getD-set-same, getD-set-other}
 use borrow.Author.Count.{below-more}
 use Rattle.model.specs.Elements.{mostCost, places}
 use Rattle.places.specs.Columns.{mostBound}
-use Rattle.exact_test.specs.Segments.{isDate, mostNext, IsWord, part, dueOf, Marked, Added, Fit, Full, Zero}
+use Rattle.exact_test.specs.Segments.{isDate, mostNext, IsWord, part, dueOf, Marked, Added, Addable, Full, Zero}
 use Rattle.exact_test.proofs.DateLaws.{date-shift}
 use Rattle.exact_test.proofs.SegmentLaws.{part-most, part-before, due-none, due-more}
 
@@ -50,7 +50,7 @@ none-added due at step cost len h =
 
 pub start :
     {next step cost due marks : List ℕ} {n base len low : ℕ} →
-    Fit next step cost n base →
+    Addable next step cost n base →
     Zero due →
     Marked due marks 0 →
     base + len ≤ low →
@@ -71,7 +71,7 @@ start {next} {step} {cost} {base} fit z m l =
     }
 
 module _ {next₀ next step cost due marks : List ℕ} {n base len low seen i : ℕ} (v : Filling next₀ next step cost due marks n base len low seen i) where
-  module _ (fit : Fit next₀ step cost n base) (b : base + len ≤ mostBound) (h : i < n) where
+  module _ (fit : Addable next₀ step cost n base) (b : base + len ≤ mostBound) (h : i < n) where
     here : getD next i 0 ≡ getD next₀ i 0
     here = v .ahead i (omega arith)
 

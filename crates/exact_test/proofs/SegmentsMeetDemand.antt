@@ -21,7 +21,7 @@ use Rattle.theory.specs.Growth.{costOf, dueAt}
 use Rattle.theory.specs.Places.{elementAt}
 use Rattle.places.specs.Columns.{mostBound}
 use Rattle.places.proofs.ColumnLaws.{step-within, Laid}
-use Rattle.exact_test.specs.Segments.{isDate, ticks, dueOf, Marked, Fit, Full, total, Zero}
+use Rattle.exact_test.specs.Segments.{isDate, ticks, dueOf, Marked, Addable, Full, total, Zero}
 use Rattle.theory.proofs.PlaceLaws.{LegalPlaces, sum-places, sum-to-same}
 use Rattle.exact_test.proofs.BitLaws.{bit-zero}
 use Rattle.exact_test.proofs.DateLaws.{test-date}
@@ -45,7 +45,7 @@ none-marked =
 
 -- LAID PLACES, from length 1 on
 module _ (t : TaskSet) (next step cost : List ℕ) (laid : Laid t next step cost) (set : LegalPlaces t) where
-  pub laid-fit : Fit next step cost (t .count) 1
+  pub laid-fit : Addable next step cost (t .count) 1
   laid-fit =
       record {
         few = set .few;
@@ -86,7 +86,7 @@ unfolding isTest
 test-due s I legal = some-cost s (λ e. isTestOf e I) (all-legal s legal)
 
 -- HOW MUCH a segment holds
-module _ {next₀ next step cost due : List ℕ} {n base len low : ℕ} (fit : Fit next₀ step cost n base)
+module _ {next₀ next step cost due : List ℕ} {n base len low : ℕ} (fit : Addable next₀ step cost n base)
     (full : Full next₀ next step cost due n base len low) where
   entry-most : (y : ℕ) → getD due y 0 ≤ places * mostCost
   entry-most y =

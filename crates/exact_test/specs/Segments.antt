@@ -64,7 +64,7 @@ pub record Added (due₀ due : List ℕ) (at step cost len r : ℕ) : Type 0 whe
   pub near : (m : ℕ) → at ≤ m → len + step ≤ m → r ≤ m
 
 -- the first n places can be added from base on
-pub record Fit (next step cost : List ℕ) (n base : ℕ) : Type 0 where
+pub record Addable (next step cost : List ℕ) (n base : ℕ) : Type 0 where
   pub few : n ≤ places
   pub long : length next ≡ places
   pub from : (i : ℕ) → i < n → base ≤ getD next i 0

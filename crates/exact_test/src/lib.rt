@@ -1,6 +1,5 @@
 // Document 01, "Exact test", of a set in memory.
-ghost use mathlib.Core.Path.{_≡_};
-ghost use Rattle.model.specs.TurnedAway.{exactAnswer};
+ghost use Rattle.exact_test.specs.Contracts.{ExactSays};
 
 mod lengths;
 mod segments;
@@ -13,7 +12,7 @@ use model::TaskSet;
 
 // A refusal by 3 to 8, or 11, or the verdict: the test lengths below F + H are compared.
 pub fn exact(set: TaskSet) -> Answer
-    ensures { λ r. ⌜ r ≡ exactAnswer set ⌝ }
+    ensures { λ r. ⌜ ExactSays set r ⌝ }
 {
     match load_of(set) {
         Loaded::Refused(r) => Answer::Refused(r),

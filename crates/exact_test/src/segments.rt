@@ -4,10 +4,10 @@ ghost use mathlib.Core.Path.{_≡_};
 ghost use Prim.Native.Nat.{ℕ, _+_, _≤_};
 ghost use lib.ListN.{getD};
 ghost use Rattle.places.specs.Columns.{mostBound};
-ghost use Rattle.exact_test.specs.Segments.{ticks, mostNext, IsWord, Marked, Added, Fit, Full, Zero, Left, sweepOf, total};
+ghost use Rattle.exact_test.specs.Segments.{ticks, mostNext, IsWord, Marked, Added, Addable, Full, Zero, Left, sweepOf, total};
 use model::Verdict;
 use model::elements::PLACES;
-use places::comparing::LARGEST;
+use places::columns::NONE_LEFT;
 use places::comparing::Sum;
 use places::comparing::add;
 
@@ -80,12 +80,12 @@ pub(crate) fn fill(
 ) -> Filled
     requires { ⌜ Marked (now due) (now marks) 0 ⌝ }
     requires { ⌜ Zero (now due) ⌝ }
-    requires { ⌜ Fit (now next) (now step) (now cost) n base ⌝ }
+    requires { ⌜ Addable (now next) (now step) (now cost) n base ⌝ }
     requires { ⌜ (len ≤ ticks) × (base + len ≤ mostBound) ⌝ }
     ensures { λ r. ⌜ Full (now (next .entry)) (now (next .exit)) (now (step .entry)) (now (cost .entry)) (now (due .exit)) n base len (r .low) ⌝ }
     ensures { λ r. ⌜ Marked (now (due .exit)) (now (marks .exit)) (r .seen) ⌝ }
 {
-    let mut low = LARGEST;
+    let mut low = NONE_LEFT;
     let mut seen: u64 = 0;
     let mut i: usize = 0;
     let end = base + len;

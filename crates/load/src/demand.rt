@@ -6,13 +6,15 @@ ghost use Rattle.model.specs.Number.{gcd as the-gcd};
 ghost use Rattle.model.specs.Elements.{mostH, isLegal, isPeriod, counted, isLegalSet};
 ghost use Rattle.model.specs.Demand.{F, joined as the-joined, demandOf, D};
 ghost use Rattle.theory.specs.Sizes.{mostLength};
-ghost use Rattle.load.specs.Load.{hyperperiodOf, demandAt};
+ghost use Rattle.load.specs.Load.{hyperperiodOf};
+ghost use Rattle.load.specs.Contracts.{DemandAtSays};
 use model::Check;
 use model::Element;
 use model::Period;
 use model::TaskSet;
 use model::checks::check_set;
 use model::elements::MOST_HYPERPERIOD;
+use model::elements::first_due;
 
 // No test asks for the demand of a longer one.
 const MOST_LENGTH: u64 = 4_294_967_296;
@@ -79,7 +81,7 @@ pub(crate) fn largest_first(set: TaskSet) -> u64
     let mut i: usize = 0;
     while i < count {
         let e = set.table[i];
-        let first = (e.offset as u64) + (e.deadline as u64);
+        let first = first_due(e);
         if largest < first {
             largest = first;
         }
@@ -93,7 +95,7 @@ fn demand_of(e: Element, length: u64) -> u64
     requires { ⌜ length ≤ mostLength ⌝ }
     ensures { λ r. ⌜ r ≡ demandOf e length ⌝ }
 {
-    let first = (e.offset as u64) + (e.deadline as u64);
+    let first = first_due(e);
     if length < first {
         return 0;
     }
@@ -124,7 +126,7 @@ pub(crate) fn demand_in(set: TaskSet, length: u64) -> u64
 
 // D at a length of up to 2^32 ticks, of a set that is legal; 0 of any other, or past that.
 pub fn demand_at(set: TaskSet, length: u64) -> u64
-    ensures { λ r. ⌜ r ≡ demandAt set length ⌝ }
+    ensures { λ r. ⌜ DemandAtSays set length r ⌝ }
 {
     let Check::Fine = check_set(set) else {
         return 0;

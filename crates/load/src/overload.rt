@@ -7,7 +7,7 @@ ghost use Rattle.model.specs.Demand.{F, Q};
 ghost use Rattle.model.specs.Demand.{H as the-hyperperiod};
 ghost use Rattle.model.specs.ExactTest.{overload as the-overload};
 ghost use Rattle.theory.specs.Sizes.{IsLoad};
-ghost use Rattle.load.specs.Load.{loadedOf};
+ghost use Rattle.load.specs.Contracts.{LoadOfSays};
 use crate::demand::LeastMultiple;
 use crate::demand::demand_in;
 use crate::demand::hyperperiod;
@@ -61,7 +61,7 @@ fn overload(set: TaskSet, first: u64, h: u64, q: u64) -> Verdict
 
 // A refusal by 3 to 8; or verdict 2; or F, H and Q, with load at most one.
 pub fn load_of(set: TaskSet) -> Loaded
-    ensures { λ r. ⌜ r ≡ loadedOf set ⌝ }
+    ensures { λ r. ⌜ LoadOfSays set r ⌝ }
 {
     if let Check::TurnedAway(r) = check_set(set) {
         return Loaded::Refused(r);

@@ -4,6 +4,8 @@ pub mod OverLaws
 pub mod StoreLaws
 pub mod ElementLaws
 pub mod TurnedAwayLaws
+pub mod RowLaws
+pub mod PromiseLaws
 pub mod CheckingASet
 pub mod StarredSums
 pub mod EdgesOfTheTables

@@ -1,4 +1,4 @@
--- No two outcomes satisfy a contract; and a verdict's values tell its case. Assumes nothing.
+-- The contracts of the public functions: the code keeps each, and no two outcomes satisfy it; and a verdict's values tell its case. Assumes nothing.
 use Prim.Native.Nat.{ℕ, zero, suc}
 use mathlib.Core.Path.{_≡_, refl, ap, sym, _∙_}
 use Rattle.model.specs.declared.elements.Element.{Element}
@@ -7,28 +7,58 @@ use Rattle.model.specs.declared.answers.Check.{Check}
 use Rattle.model.specs.declared.answers.Verdict.{Verdict}
 use Rattle.model.specs.declared.answers.Verdict.the-variants.{Passes, Overrun, LoadAboveOne, NotShown}
 use Rattle.model.specs.declared.answers.Values.{Values}
-use Rattle.model.specs.Elements.{filler, emptySet}
 use Rattle.model.specs.Answers.{values}
-use Rattle.model.specs.TurnedAway.{checkElement, checkSet, checkK}
+use Rattle.model.specs.Contracts.{FillerSays, EmptySetSays, FirstDueSays, CheckElementSays, CheckSetSays, CheckKSays, ValuesSay}
+use Rattle.model.specs.Promises.{Promises}
+use Rattle.model.proofs.elements
+use Rattle.model.proofs.checks
+use Rattle.model.proofs.answers
 
-pub filler-is-decided : (a b : Element) → a ≡ filler → b ≡ filler → a ≡ b
+-- THE CODE KEEPS THEM: what the checker proved of each function is its contract
+pub filler-keeps : Promises elements.filler.ended elements.filler.Symbol.routine (λ κs given r after. FillerSays r)
+filler-keeps = record { met = λ M. elements.filler.Met.met }
+
+pub empty-set-keeps : Promises elements.empty_set.ended elements.empty_set.Symbol.routine (λ κs given r after. EmptySetSays r)
+empty-set-keeps = record { met = λ M. elements.empty_set.Met.met }
+
+pub first-due-keeps : Promises elements.first_due.ended elements.first_due.Symbol.routine (λ κs given r after. FirstDueSays (given .0) r)
+first-due-keeps = record { met = λ M. elements.first_due.Met.met }
+
+pub check-element-keeps : Promises checks.check_element.ended checks.check_element.Symbol.routine (λ κs given r after. CheckElementSays (given .0) (given .1 .0) r)
+check-element-keeps = record { met = λ M. checks.check_element.Met.met }
+
+pub check-set-keeps : Promises checks.check_set.ended checks.check_set.Symbol.routine (λ κs given r after. CheckSetSays (given .0) r)
+check-set-keeps = record { met = λ M. checks.check_set.Met.met }
+
+pub check-k-keeps : Promises checks.check_k.ended checks.check_k.Symbol.routine (λ κs given r after. CheckKSays (given .0) r)
+check-k-keeps = record { met = λ M. checks.check_k.Met.met }
+
+pub values-of-keeps : Promises answers.values_of.ended answers.values_of.Symbol.routine (λ κs given r after. ValuesSay (given .0) r)
+values-of-keeps = record { met = λ M. answers.values_of.Met.met }
+
+-- NO TWO OUTCOMES
+pub filler-is-decided : (a b : Element) → FillerSays a → FillerSays b → a ≡ b
 filler-is-decided a b p q = p ∙ sym q
 
-pub empty-set-is-decided : (a b : TaskSet) → a ≡ emptySet → b ≡ emptySet → a ≡ b
+pub empty-set-is-decided : (a b : TaskSet) → EmptySetSays a → EmptySetSays b → a ≡ b
 empty-set-is-decided a b p q = p ∙ sym q
 
-pub element-check-is-decided : (place : ℕ) (e : Element) (a b : Check) → a ≡ checkElement place e → b ≡ checkElement place e → a ≡ b
+pub first-due-is-decided : (e : Element) (a b : ℕ) → FirstDueSays e a → FirstDueSays e b → a ≡ b
+first-due-is-decided e a b p q = p ∙ sym q
+
+pub element-check-is-decided : (place : ℕ) (e : Element) (a b : Check) → CheckElementSays place e a → CheckElementSays place e b → a ≡ b
 element-check-is-decided place e a b p q = p ∙ sym q
 
-pub set-check-is-decided : (t : TaskSet) (a b : Check) → a ≡ checkSet t → b ≡ checkSet t → a ≡ b
+pub set-check-is-decided : (t : TaskSet) (a b : Check) → CheckSetSays t a → CheckSetSays t b → a ≡ b
 set-check-is-decided t a b p q = p ∙ sym q
 
-pub k-check-is-decided : (k : ℕ) (a b : Check) → a ≡ checkK k → b ≡ checkK k → a ≡ b
+pub k-check-is-decided : (k : ℕ) (a b : Check) → CheckKSays k a → CheckKSays k b → a ≡ b
 k-check-is-decided k a b p q = p ∙ sym q
 
-pub values-are-decided : (v : Verdict) (a b : Values) → a ≡ values v → b ≡ values v → a ≡ b
+pub values-are-decided : (v : Verdict) (a b : Values) → ValuesSay v a → ValuesSay v b → a ≡ b
 values-are-decided v a b p q = p ∙ sym q
 
+-- WHAT THE VALUES TELL
 -- the verdict that has these values
 verdictOf : ℕ → ℕ → ℕ → ℕ → Verdict
 verdictOf zero i d n = Passes n

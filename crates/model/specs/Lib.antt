@@ -8,3 +8,6 @@ pub mod ExactTest
 pub mod Superposition
 pub mod TurnedAway
 pub mod Sums
+pub mod Rows
+pub mod Contracts
+pub mod Promises

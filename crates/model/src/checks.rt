@@ -1,7 +1,8 @@
 // Document 01, "What is turned away": a set in memory is checked for 3 to 7, and k for 9.
 ghost use mathlib.Core.Path.{_≡_};
 ghost use Rattle.model.specs.Elements.{within, isPeriod};
-ghost use Rattle.model.specs.TurnedAway.{turned as the-turned, checkElement, checkSet, checkK};
+ghost use Rattle.model.specs.TurnedAway.{turned as the-turned};
+ghost use Rattle.model.specs.Contracts.{CheckElementSays, CheckSetSays, CheckKSays};
 use crate::answers::Check;
 use crate::answers::Refusal;
 use crate::elements::Element;
@@ -37,7 +38,7 @@ fn turned(number: u32, place: usize) -> Check
 
 // 4 to 7, in that order, at the place of the element.
 pub fn check_element(place: usize, e: Element) -> Check
-    ensures { λ r. ⌜ r ≡ checkElement place e ⌝ }
+    ensures { λ r. ⌜ CheckElementSays place e r ⌝ }
 {
     let period = e.period;
     if !is_period(period) {
@@ -57,7 +58,7 @@ pub fn check_element(place: usize, e: Element) -> Check
 
 // 9: k out of range.
 pub fn check_k(k: u32) -> Check
-    ensures { λ r. ⌜ r ≡ checkK k ⌝ }
+    ensures { λ r. ⌜ CheckKSays k r ⌝ }
 {
     if !is_within(1, MOST_K, k) {
         return turned(9, 0);
@@ -67,7 +68,7 @@ pub fn check_k(k: u32) -> Check
 
 // 3 at place 128, then 4 to 7 element by element at its table place.
 pub fn check_set(set: TaskSet) -> Check
-    ensures { λ r. ⌜ r ≡ checkSet set ⌝ }
+    ensures { λ r. ⌜ CheckSetSays set r ⌝ }
 {
     let count = set.count;
     if PLACES < count {

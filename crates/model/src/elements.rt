@@ -1,6 +1,5 @@
 // Document 01, "Elements": the element, the set in memory, and the limits of its table.
-ghost use mathlib.Core.Path.{_≡_};
-ghost use Rattle.model.specs.Elements.{filler as the-filler, emptySet};
+ghost use Rattle.model.specs.Contracts.{FillerSays, EmptySetSays, FirstDueSays};
 
 pub const MOST_PERIOD: u32 = 16_777_216;
 
@@ -36,7 +35,7 @@ pub struct TaskSet {
 
 // What stands past the count: a single event of all zeros.
 pub fn filler() -> Element
-    ensures { λ r. ⌜ r ≡ the-filler ⌝ }
+    ensures { λ r. ⌜ FillerSays r ⌝ }
 {
     Element {
         period: Period::Once,
@@ -47,10 +46,17 @@ pub fn filler() -> Element
 }
 
 pub fn empty_set() -> TaskSet
-    ensures { λ r. ⌜ r ≡ emptySet ⌝ }
+    ensures { λ r. ⌜ EmptySetSays r ⌝ }
 {
     TaskSet {
         count: 0,
         table: [filler(); PLACES],
     }
+}
+
+// Document 01's f: the length at which an element is due first.
+pub fn first_due(e: Element) -> u64
+    ensures { λ r. ⌜ FirstDueSays e r ⌝ }
+{
+    (e.offset as u64) + (e.deadline as u64)
 }

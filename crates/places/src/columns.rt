@@ -1,20 +1,24 @@
 // The dates of each place, as numbers.
 ghost use mathlib.Core.Path.{_≡_};
-ghost use Rattle.model.specs.Demand.{f};
-ghost use Rattle.places.specs.Columns.{stepOf, stepIn, costIn, column};
+ghost use Rattle.places.specs.Columns.{stepOf};
+ghost use Rattle.places.specs.Contracts.{LaySays};
 use model::Period;
 use model::TaskSet;
 use model::elements::PLACES;
+use model::elements::first_due;
 
 // What a place has for its next length when none is left.
 pub const NONE_LEFT: u64 = 0xffff_ffff_ffff_ffff;
+
+// No bound of the exact test is above this.
+const MOST_BOUND: u64 = 2_147_483_648;
 
 // A single event's step leads past every bound.
 fn step_of(period: Period) -> u64
     ensures { λ r. ⌜ r ≡ stepOf period ⌝ }
 {
     match period {
-        Period::Once => 2_147_483_648,
+        Period::Once => MOST_BOUND,
         Period::Every(p) => p as u64,
     }
 }
@@ -26,9 +30,9 @@ pub fn lay(
     step: &mut [u64; PLACES],
     cost: &mut [u64; PLACES],
 )
-    ensures { λ _. ⌜ now (next .exit) ≡ column f set (now (next .entry)) ⌝ }
-    ensures { λ _. ⌜ now (step .exit) ≡ column stepIn set (now (step .entry)) ⌝ }
-    ensures { λ _. ⌜ now (cost .exit) ≡ column costIn set (now (cost .entry)) ⌝ }
+    ensures { λ _. ⌜
+        LaySays set (now (next .entry)) (now (step .entry)) (now (cost .entry)) (now (next .exit)) (now (step .exit)) (now (cost .exit))
+        ⌝ }
 {
     let count = if PLACES < set.count {
         PLACES
@@ -40,7 +44,7 @@ pub fn lay(
         let e = set.table[i];
         let period = e.period;
         step[i] = step_of(period);
-        next[i] = (e.offset as u64) + (e.deadline as u64);
+        next[i] = first_due(e);
         cost[i] = e.cost as u64;
         i = i + 1;
     }

@@ -1,8 +1,7 @@
 // Refusal 11: the sum that a test compares, where it grows.
-ghost use mathlib.Core.Path.{_≡_};
-ghost use Rattle.places.specs.Sums.{sumOf};
+ghost use Rattle.places.specs.Contracts.{AddSays};
 
-pub const LARGEST: u64 = 0xffff_ffff_ffff_ffff;
+const LARGEST: u64 = 0xffff_ffff_ffff_ffff;
 
 pub enum Sum {
     TooLarge,
@@ -10,7 +9,7 @@ pub enum Sum {
 }
 
 pub fn add(a: u64, b: u64) -> Sum
-    ensures { λ r. ⌜ r ≡ sumOf a b ⌝ }
+    ensures { λ r. ⌜ AddSays a b r ⌝ }
 {
     if LARGEST - a < b {
         return Sum::TooLarge;

@@ -3,9 +3,9 @@ ghost use Prim.Native.Nat.{_≤_};
 ghost use mathlib.Core.Path.{_≡_};
 ghost use lib.ListN.{length};
 ghost use Rattle.model.specs.Answers.{values};
-ghost use Rattle.model.specs.Buffers.{over};
 ghost use Rattle.printer.specs.Putting.{Puts};
-ghost use Rattle.printer.specs.Answered.{lines, shownOf, printedOf};
+ghost use Rattle.printer.specs.Answered.{lines, shownOf};
+ghost use Rattle.printer.specs.Contracts.{PutAnswersSays};
 use crate::fields::put_line;
 use crate::fields::put_refused;
 use model::Answer;
@@ -76,10 +76,7 @@ pub fn put_answers(
     hundred: Answer,
     out: &mut [u8; ROOM],
 ) -> usize
-    ensures { λ r. ⌜
-        (r ≡ length (printedOf exact one two hundred))
-        × (now (out .exit) ≡ over (printedOf exact one two hundred) (now (out .entry)))
-        ⌝ }
+    ensures { λ r. ⌜ PutAnswersSays exact one two hundred (now (out .entry)) r (now (out .exit)) ⌝ }
 {
     match shown_of(exact, one, two, hundred) {
         Shown::Refusal(r) => put_refused(out, r),

@@ -37,7 +37,7 @@ use Rattle.theory.specs.Comparing.{refusedBy, compared, isLargeWith}
 use Rattle.theory.specs.Places.{elementAt}
 use Rattle.places.proofs.ColumnLaws.{Laid}
 use Rattle.theory.specs.Sizes.{mostLength}
-use Rattle.superposition_test.specs.Walk.{none, Fit, Least, Limited, Movable, MovedOn}
+use Rattle.superposition_test.specs.Walk.{none, Walkable, Least, Limited, Movable, MovedOn}
 use Rattle.theory.proofs.PlaceLaws.{LegalPlaces}
 use Rattle.places.proofs.SumLaws.{sum-tells}
 use Rattle.theory.proofs.ComparingLaws.{Upto, upto-zero, upto-gap, upto-more, compared-large, compared-failing, compared-clear}
@@ -58,7 +58,7 @@ module _ (t : TaskSet) (k h : ℕ) where
 
   pub record Walking (step cost last rise next : List ℕ) (before scaled slope count : ℕ) : Type 0 where
     pub set : LegalPlaces t
-    pub fit : Fit t k h
+    pub fit : Walkable t k h
     pub columns : Columns t k step cost last rise
     pub long : length next ≡ places
     pub nexts : Nexts t k before next
@@ -70,7 +70,7 @@ module _ (t : TaskSet) (k h : ℕ) where
     pub low : before ≤ mostLength
 
   -- THE START
-  module _ (p : LegalPlaces t) (w : Fit t k h) where
+  module _ (p : LegalPlaces t) (w : Walkable t k h) where
     zero-unvisited : isVisited k (counted t) 0 ≡ false
     zero-unvisited = ⊎-elim
         (λ v. let i = visits-place t p k 0 v in absurd (clash (i .2) (not-at-zero k (elementAt t (i .0)) (p .legal (i .0) (i .1)))))
@@ -114,7 +114,7 @@ module _ (t : TaskSet) (k h : ℕ) where
   -- THE MOVE: every place that has the length `at` has moved on; what is due there is added, and the slope grows by `more`
   pub record Turning (step cost last rise next : List ℕ) (before scaled slope count at due more : ℕ) : Type 0 where
     pub set : LegalPlaces t
-    pub fit : Fit t k h
+    pub fit : Walkable t k h
     pub columns : Columns t k step cost last rise
     pub long : length next ≡ places
     pub nexts : Nexts t k at next

@@ -1,1 +1,2 @@
 pub mod Walk
+pub mod Contracts

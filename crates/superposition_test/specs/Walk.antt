@@ -20,7 +20,7 @@ abbrev pub none : ℕ
 none = 18446744073709551615
 
 -- what superposition is given with load at most one: a legal set, its k, and H
-pub record Fit (t : TaskSet) (k h : ℕ) : Type 0 where
+pub record Walkable (t : TaskSet) (k h : ℕ) : Type 0 where
   pub legal : isLegalSet t ≡ true
   pub low : 1 ≤ k
   pub high : k ≤ mostK

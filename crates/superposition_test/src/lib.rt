@@ -1,6 +1,5 @@
 // Document 01, "Superposition", of a set in memory, with k test points for each periodic element.
-ghost use mathlib.Core.Path.{_≡_};
-ghost use Rattle.model.specs.TurnedAway.{superpositionAnswer};
+ghost use Rattle.superposition_test.specs.Contracts.{SuperpositionSays};
 
 mod walk;
 
@@ -14,7 +13,7 @@ use walk::walk;
 
 // 9, then a refusal by 3 to 8, or 11, or the verdict.
 pub fn superposition(set: TaskSet, k: u32) -> Answer
-    ensures { λ r. ⌜ r ≡ superpositionAnswer k set ⌝ }
+    ensures { λ r. ⌜ SuperpositionSays set k r ⌝ }
 {
     if let Check::TurnedAway(r) = check_k(k) {
         return Answer::Refused(r);

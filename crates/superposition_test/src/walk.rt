@@ -7,7 +7,7 @@ ghost use Rattle.model.specs.declared.answers.Verdict.the-variants.{NotShown};
 ghost use Rattle.model.specs.Elements.{places, mostH, mostK, isLegal, isLegalSet, counted};
 ghost use Rattle.model.specs.Superposition.{m, superpositionLengths};
 ghost use Rattle.theory.specs.Comparing.{compared, isLargeWith};
-ghost use Rattle.superposition_test.specs.Walk.{Least, Stepped, Limited, Movable, MovedOn, Fit};
+ghost use Rattle.superposition_test.specs.Walk.{Least, Stepped, Limited, Movable, MovedOn, Walkable};
 use load::demand_at;
 use model::Answer;
 use model::Element;
@@ -16,6 +16,7 @@ use model::Refusal;
 use model::TaskSet;
 use model::Verdict;
 use model::elements::PLACES;
+use model::elements::first_due;
 use places::columns::NONE_LEFT;
 use places::columns::lay;
 use places::comparing::Sum;
@@ -42,7 +43,7 @@ fn last_of(e: Element, k: u64) -> u64
     requires { ⌜ (1 ≤ k) × (k ≤ mostK) ⌝ }
     ensures { λ r. ⌜ r ≡ m k e ⌝ }
 {
-    let first = (e.offset as u64) + (e.deadline as u64);
+    let first = first_due(e);
     let period = e.period;
     match period {
         Period::Once => first,
@@ -120,7 +121,7 @@ fn move_on(
 
 // The walk with load at most one: at each step the least next length is compared, until none is left.
 pub(crate) fn walk(set: TaskSet, k: u64, h: u64) -> Answer
-    requires { ⌜ Fit set k h ⌝ }
+    requires { ⌜ Walkable set k h ⌝ }
     ensures { λ r. ⌜ r ≡ compared (counted set) NotShown (superpositionLengths k (counted set)) (isLargeWith k (counted set)) ⌝ }
 {
     let mut next = [NONE_LEFT; PLACES];

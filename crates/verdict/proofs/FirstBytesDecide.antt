@@ -20,7 +20,7 @@ use Rattle.model.specs.ExactTest.{exact}
 use Rattle.model.specs.Superposition.{superposition}
 use Rattle.model.specs.TurnedAway.{unless, _then_, checkElement, firstAbove, checkH, checkK, analysis, exactIsLarge, superpositionIsLarge}
 use Rattle.model.proofs.Cases.{test, lt-or-le}
-use Rattle.wire.specs.Format.{numberAt, kindOf, isKind, bodySize, recordSize, elementAt, elementOf}
+use Rattle.wire.specs.Format.{numberAt, kindOf, isKind, bodySize, recordSize, elementFrom, elementOf}
 use Rattle.wire.specs.Reading.{checkRecord, noBytes, checkRecords, elementsIn}
 use Rattle.analysis.specs.InBytes.{kindByte, exactOfBytes, superpositionOfBytes}
 use Rattle.analysis.proofs.ByteLaws.{first-within}
@@ -59,7 +59,7 @@ module _ (n : ℕ) (s : List ℕ) (h : 17 ≤ n) where
   same-number i l =
       rw (same-byte i (omega arith), same-byte (i + 1) (omega arith), same-byte (i + 2) (omega arith), same-byte (i + 3) (omega arith))
 
-  same-parts : {q r : Period} → q ≡ r → (i : ℕ) → i + 12 ≤ 17 → elementAt (take n s) q i ≡ elementAt s r i
+  same-parts : {q r : Period} → q ≡ r → (i : ℕ) → i + 12 ≤ 17 → elementFrom (take n s) q i ≡ elementFrom s r i
   same-parts e i l = λ j. record {
     period = e j;
     offset = same-number i (omega arith) j;

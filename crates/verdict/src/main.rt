@@ -5,7 +5,6 @@ use crate::report::put_verdicts;
 use libc::STDERR_FILENO;
 use libc::STDIN_FILENO;
 use libc::STDOUT_FILENO;
-use model::Check;
 use printer::ROOM;
 use wire::read_set;
 
@@ -39,6 +38,15 @@ fn read_on() {
     }
 }
 
+// Says how many elements were judged, so that an input cut between two records is seen.
+fn say_how_many(bytes: &[u8]) {
+    let read = read_set(bytes);
+    let set = read.set;
+    io::write_all(STDERR_FILENO, b"verdict: elements judged: ");
+    io::print_decimal(STDERR_FILENO, set.count as u64);
+    io::write_all(STDERR_FILENO, b"\n");
+}
+
 fn print(bytes: &[u8]) {
     let mut text = [0u8; ROOM];
     let end = put_verdicts(bytes, &mut text);
@@ -47,21 +55,12 @@ fn print(bytes: &[u8]) {
             STDERR_FILENO,
             b"verdict: standard output could not be written\n",
         );
-    }
-}
-
-// Says how many elements were judged, so that an input cut between two records is seen; nothing where it is refused.
-fn say_how_many(bytes: &[u8]) {
-    let read = read_set(bytes);
-    let check = read.check;
-    let Check::Fine = check else {
         return;
-    };
-    let set = read.set;
-    let count = set.count;
-    io::write_all(STDERR_FILENO, b"verdict: elements judged: ");
-    io::print_decimal(STDERR_FILENO, count as u64);
-    io::write_all(STDERR_FILENO, b"\n");
+    }
+    // "exact", and not "refused"
+    if text[0] == b'e' {
+        say_how_many(bytes);
+    }
 }
 
 fn main() {
@@ -76,7 +75,6 @@ fn main() {
     }
     let n = io::count(got, &input);
     print(&input[..n]);
-    say_how_many(&input[..n]);
     if n == input.len() {
         read_on();
     }

@@ -1,8 +1,5 @@
 // The text of the four answers to these bytes.
-ghost use mathlib.Core.Path.{_≡_};
-ghost use lib.ListN.{length};
-ghost use Rattle.model.specs.Buffers.{over};
-ghost use Rattle.verdict.specs.Printed.{printed};
+ghost use Rattle.verdict.specs.Contracts.{PutVerdictsSays};
 use analysis::exact_of_bytes;
 use analysis::superposition_of_bytes;
 use printer::ROOM;
@@ -10,7 +7,7 @@ use printer::put_answers;
 
 // Puts what is printed for these bytes at the start of out, and answers how many bytes that are.
 pub(crate) fn put_verdicts(bytes: &[u8], out: &mut [u8; ROOM]) -> usize
-    ensures { λ r. ⌜ (r ≡ length (printed (now (bytes .entry)))) × (now (out .exit) ≡ over (printed (now (bytes .entry))) (now (out .entry))) ⌝ }
+    ensures { λ r. ⌜ PutVerdictsSays (now (bytes .entry)) (now (out .entry)) r (now (out .exit)) ⌝ }
 {
     let exact = exact_of_bytes(bytes);
     let one = superposition_of_bytes(bytes, 1);

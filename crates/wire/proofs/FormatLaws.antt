@@ -9,7 +9,7 @@ use lib.Dec.{eqb}
 use borrow.Author.Tests.{eq-eqb, ne-eqb, eqb-true}
 use Rattle.model.specs.declared.elements.Period.the-variants.{Once, Every}
 use Rattle.model.proofs.Cases.{or-cases}
-use Rattle.wire.specs.Format.{numberAt, kindOf, isKind, bodySize, recordSize, elementAt, elementOf}
+use Rattle.wire.specs.Format.{numberAt, kindOf, isKind, bodySize, recordSize, elementFrom, elementOf}
 
 -- KINDS
 pub known-kinds : (kind : ℕ) → isKind kind ≡ true → (kind ≡ 1) ⊎ (kind ≡ 2)
@@ -26,7 +26,7 @@ module _ (s : List ℕ) where
     unfolding recordSize bodySize
     every-size = simp (eq-eqb (kindOf s) 1 h)
 
-    pub every-element : elementOf s ≡ elementAt s (Every (numberAt s 1)) 5
+    pub every-element : elementOf s ≡ elementFrom s (Every (numberAt s 1)) 5
     unfolding elementOf
     every-element = simp (eq-eqb (kindOf s) 1 h)
 
@@ -35,6 +35,6 @@ module _ (s : List ℕ) where
     unfolding recordSize bodySize
     once-size = let k = ⊎-elim (λ p. absurd (n p)) (λ p. p) (known-kinds (kindOf s) h) in simp (ne-eqb (kindOf s) 1 n, eq-eqb (kindOf s) 2 k)
 
-    pub once-element : elementOf s ≡ elementAt s Once 1
+    pub once-element : elementOf s ≡ elementFrom s Once 1
     unfolding elementOf
     once-element = simp (ne-eqb (kindOf s) 1 n)

@@ -17,7 +17,7 @@ use Rattle.model.proofs.TurnedAwayLaws.{turned-is-not-fine, turned-tells}
 use Rattle.wire.specs.Format.{AllBytes, recordsOf}
 use Rattle.wire.specs.Reading.{noBytes, checkRecord, checkRecords, elementsIn, handedBack, readSet}
 use Rattle.wire.specs.Outcomes.{AreRecords, AreRefused}
-use Rattle.wire.proofs.ReadingLaws.{no-bytes, some-bytes, records-end, records-stop, elements-end}
+use Rattle.wire.proofs.ReadingLaws.{no-bytes, some-bytes, records-end, records-stop, elements-end, read-check, read-elements}
 use Rattle.wire.proofs.Splitting.{records-then, elements-then, Split, split}
 use Rattle.wire.proofs.RowLaws.{record-turned, record-turns, first-is}
 
@@ -49,7 +49,7 @@ reads-set s es k =
       append-nil,
     )
 
-reads-refused : (s : List ℕ) (number place : ℕ) → AreRefused s number place → readSet s ≡ handedBack (turned number place) emptySet
+pub reads-refused : (s : List ℕ) (number place : ℕ) → AreRefused s number place → readSet s ≡ handedBack (turned number place) emptySet
 unfolding readSet
 reads-refused s number place k =
     let n = left (k .before) (k .from) (k .legal) (k .few) in
@@ -126,6 +126,29 @@ refusal-is-given s number place h = (λ r. ⊎-elim (found r) (refused r) (decid
         let same : turned (k .0) (k .1) ≡ turned number place = ap (λ x. x .check) (sym (reads-refused s (k .0) (k .1) (k .2)) ∙ r) in
         let told = turned-tells same in
         subst (λ n. AreRefused s n place) (told .0) (subst (AreRefused s (k .0)) (told .1) (k .2))
+
+-- WHAT THE CHECKS OF THE RECORDS TELL, for who asks for them and not for the set
+module _ (s : List ℕ) (es : List Element) (k : AreRecords s es) where
+  pub records-fine : checkRecords places 0 s ≡ Fine
+  records-fine = sym (read-check s) ∙ ap (λ r. r .check) (reads-set s es k)
+
+  pub elements-are : elementsIn places s ≡ es
+  elements-are =
+      sym (set-counted (elementsIn places s))
+      ∙ ap counted (sym (read-elements s records-fine) ∙ ap (λ r. r .set) (reads-set s es k))
+      ∙ set-counted es
+
+pub fine-are-records : (s : List ℕ) → AllBytes s → checkRecords places 0 s ≡ Fine → AreRecords s (elementsIn places s)
+fine-are-records s h c =
+    let k = read-is-records s h (read-check s ∙ c) in
+    subst (AreRecords s) (sym (elements-are s (k .0) (k .1))) (k .1)
+
+pub records-turned : (s : List ℕ) (number place : ℕ) → AreRefused s number place → checkRecords places 0 s ≡ turned number place
+records-turned s number place k = sym (read-check s) ∙ ap (λ r. r .check) (reads-refused s number place k)
+
+pub turned-are-refused : (s : List ℕ) (number place : ℕ) → AllBytes s → checkRecords places 0 s ≡ turned number place → AreRefused s number place
+unfolding readSet
+turned-are-refused s number place h c = refusal-is-given s number place h .0 (rw c)
 
 -- THEOREM: reading ends in one of: a set; one refusal, from 1 to 7, with its place
 pub set-or-refusal :

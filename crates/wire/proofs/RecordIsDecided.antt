@@ -9,13 +9,14 @@ use native.Mathlib.Omega.{arith}
 use lib.ListN.{length, drop}
 use Rattle.model.specs.declared.elements.Element.{Element}
 use Rattle.model.specs.Elements.{places, isLegal}
+use Rattle.model.specs.Rows.{IsFirstRow}
 use Rattle.model.proofs.Cases.{clash}
 use Rattle.model.proofs.TurnedAwayLaws.{turned-tells}
 use Rattle.wire.specs.declared.records.Record.{Record}
 use Rattle.wire.specs.declared.records.Record.the-variants as answer
 use Rattle.wire.specs.Format.{AllBytes, recordSize, recordOf}
 use Rattle.wire.specs.Reading.{noBytes, readNext, readRecord, bytesTaken, restOf}
-use Rattle.wire.specs.Outcomes.{rows, IsFirst}
+use Rattle.wire.specs.Outcomes.{rows}
 use Rattle.wire.proofs.ReadingLaws.{no-bytes, some-bytes, answer-tells, element-answers, rest-element}
 use Rattle.wire.proofs.RecordLaws.{written-is-read, written-is-element, written-rest, read-is-written}
 use Rattle.wire.proofs.RowLaws.{record-turned, record-turns}
@@ -47,18 +48,18 @@ element-is-answered s e h = (found, back)
 -- THEOREM: a refusal is answered exactly by the first row that does not let the record pass, at place 0
 pub refusal-is-answered :
     (s : List ℕ) (number place : ℕ) →
-    (readRecord s ≡ answer.Refused (record { number = number; place = place })) ↔ ((1 ≤ length s) × (place ≡ 0) × IsFirst (rows [] s) number)
+    (readRecord s ≡ answer.Refused (record { number = number; place = place })) ↔ ((1 ≤ length s) × (place ≡ 0) × IsFirstRow (rows [] s) number)
 unfolding readRecord readNext
 refusal-is-answered s number place = (found, back)
   where
-    found : readRecord s ≡ answer.Refused (record { number = number; place = place }) → (1 ≤ length s) × (place ≡ 0) × IsFirst (rows [] s) number
+    found : readRecord s ≡ answer.Refused (record { number = number; place = place }) → (1 ≤ length s) × (place ≡ 0) × IsFirstRow (rows [] s) number
     found r =
         let k = answer-tells places 0 s r in
         let f = record-turned [] s places 0 (omega arith) (k .1) in
         let told = turned-tells (f .1) in
-        (some-bytes s .0 (k .0), told .1, subst (IsFirst (rows [] s)) (sym (told .0)) (f .2))
+        (some-bytes s .0 (k .0), told .1, subst (IsFirstRow (rows [] s)) (sym (told .0)) (f .2))
 
-    back : (1 ≤ length s) × (place ≡ 0) × IsFirst (rows [] s) number → readRecord s ≡ answer.Refused (record { number = number; place = place })
+    back : (1 ≤ length s) × (place ≡ 0) × IsFirstRow (rows [] s) number → readRecord s ≡ answer.Refused (record { number = number; place = place })
     back k = rw (some-bytes s .1 (k .0), record-turns [] s places 0 (omega arith) number (k .2), k .1)
 
 -- THEOREM: one record alone is never refused by 3

@@ -37,12 +37,12 @@ unfoldable pub recordSize : List ℕ → ℕ
 recordSize s = suc (bodySize (kindOf s))
 
 -- "offset, deadline, cost", from i on
-abbrev pub elementAt : List ℕ → Period → ℕ → Element
-elementAt s q i = record { period = q; offset = numberAt s i; deadline = numberAt s (i + 4); cost = numberAt s (i + 8) }
+abbrev pub elementFrom : List ℕ → Period → ℕ → Element
+elementFrom s q i = record { period = q; offset = numberAt s i; deadline = numberAt s (i + 4); cost = numberAt s (i + 8) }
 
 -- "Kind 01: period, offset, deadline, cost. [..] Kind 02: offset, deadline, cost."
 unfoldable pub elementOf : List ℕ → Element
-elementOf s = cond (eqb (kindOf s) 1) (elementAt s (Every (numberAt s 1)) 5) (elementAt s Once 1)
+elementOf s = cond (eqb (kindOf s) 1) (elementFrom s (Every (numberAt s 1)) 5) (elementFrom s Once 1)
 
 -- the same as it is written: the kind, and the period where there is one; then the others
 unfoldable pub startOf : Period → List ℕ

@@ -1,20 +1,16 @@
--- Words of the theorems about reading: the rows of document 01's table, bytes that are a set or are refused.
-use Prim.Native.Nat.{ℕ, _≤_, _<_}
+-- Words of the theorems about reading: the rows of document 01's table for a record, bytes that are a set or are refused.
+use Prim.Native.Nat.{ℕ, _≤_}
 use mathlib.Core.Path.{_≡_}
-use mathlib.Core.Bool.{Bool, true, false}
-use mathlib.Core.List.{List, [], _∷_, _++_}
+use mathlib.Core.Bool.{Bool, true}
+use mathlib.Core.List.{List, _∷_, _++_}
 use lib.Dec.{leb, ltb}
-use lib.ListN.{length, getD}
+use lib.ListN.{length}
 use Rattle.model.specs.declared.elements.Element.{Element}
-use Rattle.model.specs.Elements.{places, isPeriod, isOffset, isDeadline, isCost, AllLegal}
+use Rattle.model.specs.Elements.{places, AllLegal}
+use Rattle.model.specs.Rows.{valueRows, IsFirstRow}
 use Rattle.wire.specs.Format.{kindOf, isKind, recordSize, elementOf, recordsOf}
 
--- THE ROWS of "What is turned away": whether each lets pass
--- 4 to 7: "period", "offset", "deadline", "cost out of range"
-abbrev pub valueRows : Element → List Bool
-valueRows e = isPeriod (e .period) ∷ isOffset (e .offset) ∷ isDeadline (e .deadline) ∷ isCost (e .cost) ∷ []
-
--- 1 to 7, of the record that the bytes start with, after these elements; there is no row 0
+-- THE ROWS 1 to 7 of "What is turned away", of the record that the bytes start with, after these elements: whether each lets pass; there is no row 0
 abbrev pub rows : List Element → List ℕ → List Bool
 rows before from =
     true
@@ -25,15 +21,6 @@ rows before from =
     -- 3: "a 129th element"
     ∷ ltb (length before) places
     ∷ valueRows (elementOf from)
-
--- of an element in memory: rows 1 to 3 do not look at it
-abbrev pub elementRows : Element → List Bool
-elementRows e = true ∷ true ∷ true ∷ true ∷ valueRows e
-
--- the first of these rows that does not let pass
-pub record IsFirst (rs : List Bool) (number : ℕ) : Type 0 where
-  pub stops : getD rs number true ≡ false
-  pub first : (earlier : ℕ) → earlier < number → getD rs earlier true ≡ true
 
 -- BYTES THAT ARE A SET: the records of these elements and nothing else
 pub record AreRecords (s : List ℕ) (es : List Element) : Type 0 where
@@ -50,4 +37,4 @@ pub record AreRefused (s : List ℕ) (number place : ℕ) : Type 0 where
   pub few : length before ≤ places
   pub more : 1 ≤ length from
   pub at : place ≡ length (recordsOf before)
-  pub row : IsFirst (rows before from) number
+  pub row : IsFirstRow (rows before from) number

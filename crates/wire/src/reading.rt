@@ -1,6 +1,7 @@
 // A set read from bytes.
 ghost use mathlib.Core.Path.{_≡_};
-ghost use Rattle.wire.specs.Reading.{checkOf, handedBack, readSet};
+ghost use Rattle.wire.specs.Reading.{checkOf, handedBack};
+ghost use Rattle.wire.specs.Contracts.{ReadSetSays};
 use crate::records::Record;
 use crate::records::read_next;
 use crate::records::rest;
@@ -34,7 +35,7 @@ fn hand_back(found: Record, set: TaskSet) -> ReadSet
 }
 
 pub fn read_set(bytes: &[u8]) -> ReadSet
-    ensures { λ r. ⌜ r ≡ readSet (now (bytes .entry)) ⌝ }
+    ensures { λ r. ⌜ ReadSetSays (now (bytes .entry)) r ⌝ }
 {
     let mut set = empty_set();
     let mut left = bytes;

@@ -3,8 +3,9 @@ ghost use mathlib.Core.Path.{_≡_};
 ghost use mathlib.Core.Bool.{true};
 ghost use Prim.Native.Nat.{suc, _+_, _≤_};
 ghost use lib.ListN.{length};
-ghost use Rattle.wire.specs.Format.{kindOf, isKind, bodySize, recordSize, elementAt, elementOf};
-ghost use Rattle.wire.specs.Reading.{answerOf, readNext, readRecord, IsRest};
+ghost use Rattle.wire.specs.Format.{kindOf, isKind, bodySize, recordSize, elementFrom, elementOf};
+ghost use Rattle.wire.specs.Reading.{answerOf, readNext, IsRest};
+ghost use Rattle.wire.specs.Contracts.{ReadRecordSays};
 use crate::numbers::number_at;
 use model::Check;
 use model::Element;
@@ -53,7 +54,7 @@ fn size_of(kind: u8) -> usize
 
 fn element_at(bytes: &[u8], period: Period, at: usize) -> Element
     requires { ⌜ at + 12 ≤ length (now bytes) ⌝ }
-    ensures { λ r. ⌜ r ≡ elementAt (now (bytes .entry)) period at ⌝ }
+    ensures { λ r. ⌜ r ≡ elementFrom (now (bytes .entry)) period at ⌝ }
 {
     let offset = number_at(bytes, at);
     let deadline = number_at(bytes, at + 4);
@@ -102,7 +103,7 @@ pub(crate) fn read_next(room: usize, place: usize, bytes: &[u8]) -> Record
 }
 
 pub fn read_record(bytes: &[u8]) -> Record
-    ensures { λ r. ⌜ r ≡ readRecord (now (bytes .entry)) ⌝ }
+    ensures { λ r. ⌜ ReadRecordSays (now (bytes .entry)) r ⌝ }
 {
     read_next(PLACES, 0, bytes)
 }

@@ -9,24 +9,30 @@ use Rattle.model.specs.declared.elements.TaskSet.{TaskSet}
 use Rattle.model.specs.declared.answers.Check.the-variants.{Fine}
 use Rattle.model.specs.Elements.{places, isLegalSet, counted, setOf, Same}
 use Rattle.model.proofs.ElementLaws.{legal-set, set-counted, counted-long}
+use Rattle.writer.specs.declared.writing.Written.{Written}
 use Rattle.writer.specs.declared.writing.Written.the-variants.{Bytes}
+use Rattle.wire.specs.declared.reading.ReadSet.{ReadSet}
 use Rattle.wire.specs.Format.{AllBytes, recordsOf}
 use Rattle.wire.specs.Reading.{handedBack, readSet}
-use Rattle.writer.specs.Writing.{bytesOf, writeSet, bufferAfter}
+use Rattle.wire.specs.Contracts.{ReadSetSays}
+use Rattle.writer.specs.Writing.{bytesOf}
+use Rattle.writer.specs.Contracts.{WriteSetSays}
 use Rattle.wire.proofs.ReaderIsDecided.{reads-set, read-is-records}
 use Rattle.writer.proofs.WriterIsDecided.{set-is-written, bytes-are-written}
 
 -- THEOREM: what was written is read as the same set, with fillers past its count
 pub write-then-read :
-    (t : TaskSet) (out : List ℕ) (n : ℕ) →
+    (t : TaskSet) (out : List ℕ) (a : Written) (after : List ℕ) (n : ℕ) (r : ReadSet) →
     length (t .table) ≡ places →
-    writeSet t (length out) ≡ Bytes n →
-    (readSet (take n (bufferAfter t out)) ≡ handedBack Fine (setOf (counted t))) × Same (setOf (counted t)) t
-write-then-read t out n long h =
-    let legal = legal-set t .0 (set-is-written t (length out) n .0 h .0) in
-    let bytes = bytes-are-written t out n h .0 in
+    WriteSetSays t out a after →
+    a ≡ Bytes n →
+    ReadSetSays (take n after) r →
+    (r ≡ handedBack Fine (setOf (counted t))) × Same (setOf (counted t)) t
+write-then-read t out a after n r long says h read =
+    let legal = legal-set t .0 (set-is-written t (length out) n .0 (sym (says .0) ∙ h) .0) in
+    let bytes = bytes-are-written t out a after says n h .0 in
     let few : length (counted t) ≤ places = omega (arith, counted-long t long (legal .0), legal .0) in (
-      reads-set (take n (bufferAfter t out)) (counted t) (record { bytes = bytes; legal = legal .1; few = few }),
+      read ∙ reads-set (take n after) (counted t) (record { bytes = bytes; legal = legal .1; few = few }),
       record { counts = counted-long t long (legal .0); elements = set-counted (counted t) },
     )
 
@@ -45,13 +51,17 @@ read-has-its-bytes s h c =
 
 -- THEOREM: what was read is written as exactly those bytes
 pub read-then-write :
-    (s out : List ℕ) →
+    (s : List ℕ) (r : ReadSet) (out : List ℕ) (a : Written) (after : List ℕ) →
     AllBytes s →
-    readSet s .check ≡ Fine →
+    ReadSetSays s r →
+    r .check ≡ Fine →
     length s ≤ length out →
-    (writeSet (readSet s .set) (length out) ≡ Bytes (length s)) × (bufferAfter (readSet s .set) out ≡ s ++ drop (length s) out)
-read-then-write s out h c long =
-    let its = read-has-its-bytes s h c in
-    let written = set-is-written (readSet s .set) (length out) (length s) .1 (its .0, ap length (its .1), long) in
-    let buffer = bytes-are-written (readSet s .set) out (length s) written in
-    (written, sym (take-append-drop (length s) (bufferAfter (readSet s .set) out)) ∙ ap₂ _++_ (buffer .0 ∙ its .1) (buffer .1))
+    WriteSetSays (r .set) out a after →
+    (a ≡ Bytes (length s)) × (after ≡ s ++ drop (length s) out)
+read-then-write s r out a after h read c long says =
+    let its = read-has-its-bytes s h (ap (λ x. x .check) (sym read) ∙ c) in
+    let legal : isLegalSet (r .set) ≡ true = rw read (its .0) in
+    let bytes : bytesOf (r .set) ≡ s = rw read (its .1) in
+    let written = says .0 ∙ set-is-written (r .set) (length out) (length s) .1 (legal, ap length bytes, long) in
+    let buffer = bytes-are-written (r .set) out a after says (length s) written in
+    (written, sym (take-append-drop (length s) after) ∙ ap₂ _++_ (buffer .0 ∙ bytes) (buffer .1))

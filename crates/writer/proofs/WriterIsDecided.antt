@@ -1,27 +1,34 @@
 -- What writing a set gives is decided for every set and every buffer: its bytes exactly when it is legal and has room, else one refusal, exactly when
 -- document 01 says, and the buffer as it was. Assumes nothing.
-use Prim.Native.Nat.{ℕ, _+_, _≤_}
-use mathlib.Core.Path.{_≡_, refl, sym, ap, subst, _∙_}
+use Prim.Native.Nat.{ℕ, _≤_}
+use mathlib.Core.Path.{_≡_, refl, sym, ap, _∙_}
 use mathlib.Core.Bool.{true}
 use mathlib.Core.List.{List}
 use mathlib.Core.Logic.{_↔_, inl, inr, ⊎-elim}
 use native.Mathlib.Omega.{arith}
 use lib.Dec.{leb}
-use lib.ListN.{length, getD, take, drop}
+use lib.ListN.{length, take, drop}
 use lib.Seq.{take-at, drop-at}
+use denote.Ref.{now}
 use borrow.Author.Tests.{leb-true, leb-false, le-leb, lt-leb}
 use Rattle.model.specs.declared.elements.TaskSet.{TaskSet}
 use Rattle.model.specs.declared.answers.Refusal.{Refusal}
 use Rattle.model.specs.declared.answers.Check.{Check}
 use Rattle.model.specs.declared.answers.Check.the-variants.{Fine, TurnedAway}
-use Rattle.model.specs.Elements.{places, filler, counted, isLegalSet}
-use Rattle.model.specs.TurnedAway.{turned, unless, checkElements, checkSet}
-use Rattle.model.proofs.TurnedAwayLaws.{turned-tells, then-fine, then-turned, unless-turned, unless-fine, elements-turned, turned-elements, set-fine}
+use Rattle.model.specs.Elements.{isLegalSet}
+use Rattle.model.specs.TurnedAway.{turned, unless, checkSet}
+use Rattle.model.proofs.TurnedAwayLaws.{turned-tells, then-fine, then-turned, unless-turned, unless-fine, set-fine}
+use Rattle.model.proofs.RowLaws.{set-is-turned-away}
+use Rattle.model.specs.Promises.{Promises}
+use Rattle.model.proofs.PromiseLaws.{promises-what-follows}
+use Rattle.writer.specs.declared.writing.Written.{Written}
 use Rattle.writer.specs.declared.writing.Written.the-variants.{Bytes, Refused}
 use Rattle.writer.specs.Writing.{bytesOf, checkWrite, writtenBy, writeSet, bufferAfter}
 use Rattle.model.specs.Buffers.{over}
-use Rattle.writer.specs.Outcomes.{HasTooMany, HasBadValue, HasNoRoom, IsNotWritten}
-use Rattle.wire.proofs.RowLaws.{value-turned, value-turns}
+use Rattle.writer.specs.Outcomes.{HasNoRoom, IsNotWritten}
+use Rattle.writer.specs.Contracts.{WriteSetSays}
+use Rattle.writer.proofs.writing
+use Rattle.writer.proofs.Outcomes.{write-set-keeps}
 
 fine-tells : (c : Check) {m n : ℕ} → writtenBy c m ≡ Bytes n → (c ≡ Fine) × (m ≡ n)
 fine-tells Fine h = (refl, cc)
@@ -42,88 +49,54 @@ set-is-written t room n =
       λ h. rw (set-fine t .1 (h .0), fits .1 (le-leb (length (bytesOf t)) room (omega arith)), h .1),
     )
 
--- REFUSALS: the checks that a write is made of
-abbrev countCheck : TaskSet → Check
-countCheck t = unless (leb (t .count) places) 3 places
+-- REFUSALS
+module _ (t : TaskSet) (number place room : ℕ) where
+  abbrev roomCheck : Check
+  roomCheck = unless (leb (length (bytesOf t)) room) 10 (length (bytesOf t))
 
-abbrev roomCheck : TaskSet → ℕ → Check
-roomCheck t room = unless (leb (length (bytesOf t)) room) 10 (length (bytesOf t))
-
-module _ (t : TaskSet) (number place : ℕ) where
-  many-refused : (countCheck t ≡ turned number place) ↔ HasTooMany t number place
-  many-refused =
-      let u = unless-turned (leb (t .count) places) 3 places in (
-        λ p. let told = turned-tells (u .0 p .1) in
-            record { many = leb-false (t .count) places (u .0 p .0); by = sym (told .0); at = sym (told .1) },
-        λ k. u .1 (lt-leb (t .count) places (k .many), rw (k .by, k .at)),
+  room-refused : ((checkSet t ≡ Fine) × (roomCheck ≡ turned number place)) ↔ HasNoRoom t room number place
+  room-refused =
+      let n = length (bytesOf t) in
+      let u = unless-turned (leb n room) 10 n in (
+        λ p. let told = turned-tells (u .0 (p .1) .1) in
+            record { legal = set-fine t .0 (p .0); by = sym (told .0); at = sym (told .1); short = omega (arith, leb-false n room (u .0 (p .1) .0), told .1) },
+        λ k. (set-fine t .1 (k .legal), u .1 (lt-leb n room (omega (arith, k .at, k .short)), rw (k .by, k .at))),
       )
 
-  value-refused : ((countCheck t ≡ Fine) × (checkElements 0 (counted t) ≡ turned number place)) ↔ HasBadValue t number place
-  value-refused = (found, back)
-    where
-      found : (countCheck t ≡ Fine) × (checkElements 0 (counted t) ≡ turned number place) → HasBadValue t number place
-      found p =
-          let k = elements-turned (counted t) filler 0 (p .1) in
-          let v = value-turned (0 + k .0) (getD (counted t) (k .0) filler) (k .1 .here) in
-          let told = turned-tells (v .1) in
-          let there : k .0 ≡ place = omega (arith, told .1) in
-          let few = leb-true (t .count) places (unless-fine (leb (t .count) places) 3 places .0 (p .0)) in
-          subst (λ n. HasBadValue t n place) (sym (told .0))
-          (subst (HasBadValue t (v .0)) there (record { few = few; counts = k .1 .within; before = k .1 .before; row = v .2 }))
+  write-is-refused : (checkWrite t room ≡ turned number place) ↔ IsNotWritten t room number place
+  unfolding checkWrite
+  write-is-refused =
+      let all = then-turned (checkSet t) roomCheck in
+      let set = set-is-turned-away t number place in (
+        λ h. ⊎-elim (λ p. inl (set .0 p)) (λ p. inr (room-refused .0 p)) (all .0 h),
+        ⊎-elim (λ k. all .1 (inl (set .1 k))) (λ k. all .1 (inr (room-refused .1 k))),
+      )
 
-      back : HasBadValue t number place → (countCheck t ≡ Fine) × (checkElements 0 (counted t) ≡ turned number place)
-      back k =
-          let there : 0 + place ≡ place = omega arith in
-          let here = value-turns (0 + place) (getD (counted t) place filler) number (k .row) ∙ ap (turned number) there in (
-            unless-fine (leb (t .count) places) 3 places .1 (le-leb (t .count) places (k .few)),
-            turned-elements (counted t) filler 0 place (record { within = k .counts; before = k .before; here = here }),
-          )
+  -- THEOREM: a set is refused exactly as document 01 says: by 3, else by its first bad value, else by 10
+  pub set-is-not-written : (writeSet t room ≡ Refused (record { number = number; place = place })) ↔ IsNotWritten t room number place
+  unfolding writeSet
+  set-is-not-written = (
+    λ h. write-is-refused .0 (refused-tells (checkWrite t room) (length (bytesOf t)) h),
+    λ k. rw (write-is-refused .1 k),
+  )
 
-  module _ (room : ℕ) where
-    room-refused : ((checkSet t ≡ Fine) × (roomCheck t room ≡ turned number place)) ↔ HasNoRoom t room number place
-    room-refused =
-        let n = length (bytesOf t) in
-        let u = unless-turned (leb n room) 10 n in (
-          λ p. let told = turned-tells (u .0 (p .1) .1) in
-              record { legal = set-fine t .0 (p .0); by = sym (told .0); at = sym (told .1); short = omega (arith, leb-false n room (u .0 (p .1) .0), told .1) },
-          λ k. (set-fine t .1 (k .legal), u .1 (lt-leb n room (omega (arith, k .at, k .short)), rw (k .by, k .at))),
-        )
-
-    write-is-refused : (checkWrite t room ≡ turned number place) ↔ IsNotWritten t room number place
-    unfolding checkSet checkWrite
-    write-is-refused =
-        let all = then-turned (checkSet t) (roomCheck t room) in
-        let set = then-turned (countCheck t) (checkElements 0 (counted t)) in (
-          λ h. ⊎-elim
-              (λ p. ⊎-elim (λ q. inl (many-refused .0 q)) (λ q. inr (inl (value-refused .0 q))) (set .0 p))
-              (λ p. inr (inr (room-refused .0 p)))
-              (all .0 h),
-          ⊎-elim
-              (λ k. all .1 (inl (set .1 (inl (many-refused .1 k)))))
-              (⊎-elim (λ k. all .1 (inl (set .1 (inr (value-refused .1 k))))) (λ k. all .1 (inr (room-refused .1 k)))),
-        )
-
-    -- THEOREM: a set is refused exactly as document 01 says: by 3, else by its first bad value, else by 10
-    pub set-is-not-written : (writeSet t room ≡ Refused (record { number = number; place = place })) ↔ IsNotWritten t room number place
-    unfolding writeSet
-    set-is-not-written = (
-      λ h. write-is-refused .0 (refused-tells (checkWrite t room) (length (bytesOf t)) h),
-      λ k. rw (write-is-refused .1 k),
-    )
-
-module _ (t : TaskSet) (out : List ℕ) where
+-- WHATEVER `write_set` ANSWERS AND LEAVES
+module _ (t : TaskSet) (out : List ℕ) (a : Written) (after : List ℕ) (says : WriteSetSays t out a after) where
   -- THEOREM: the bytes stand at the start of the buffer, and what is past them stays
-  pub bytes-are-written :
-      (n : ℕ) →
-      writeSet t (length out) ≡ Bytes n →
-      (take n (bufferAfter t out) ≡ bytesOf t) × (drop n (bufferAfter t out) ≡ drop n out)
+  pub bytes-are-written : (n : ℕ) → a ≡ Bytes n → (take n after ≡ bytesOf t) × (drop n after ≡ drop n out)
   unfolding writeSet bufferAfter
   bytes-are-written n h =
-      let f = fine-tells (checkWrite t (length out)) h in
-      let buffer : bufferAfter t out ≡ over (bytesOf t) out = rw (f .0) in
+      let f = fine-tells (checkWrite t (length out)) (sym (says .0) ∙ h) in
+      let buffer : after ≡ over (bytesOf t) out = says .1 ∙ rw (f .0) refl in
       rw buffer (take-at (bytesOf t) _ n (f .1), drop-at (bytesOf t) _ n (f .1) ∙ ap (λ m. drop m out) (f .1))
 
   -- THEOREM: a refused write changes no byte
-  pub refused-write-changes-nothing : (r : Refusal) → writeSet t (length out) ≡ Refused r → bufferAfter t out ≡ out
+  pub refused-write-changes-nothing : (r : Refusal) → a ≡ Refused r → after ≡ out
   unfolding writeSet bufferAfter
-  refused-write-changes-nothing r h = rw (refused-tells (checkWrite t (length out)) (length (bytesOf t)) h)
+  refused-write-changes-nothing r h = says .1 ∙ rw (refused-tells (checkWrite t (length out)) (length (bytesOf t)) (sym (says .0) ∙ h)) refl
+
+-- THEOREM: so its code, where it refuses, leaves the buffer as it was
+pub refused-code-changes-nothing :
+    Promises writing.write_set.ended writing.write_set.Symbol.routine (λ κs given r after. (q : Refusal) → r ≡ Refused q → now (after .1 .0) ≡ now (given .1 .0))
+refused-code-changes-nothing =
+    promises-what-follows (λ κs given r after says. refused-write-changes-nothing (given .0) (now (given .1 .0)) r (now (after .1 .0)) says) write-set-keeps

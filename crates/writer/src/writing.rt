@@ -6,7 +6,8 @@ ghost use lib.ListN.{length};
 ghost use lib.Seq.{sets};
 ghost use Rattle.model.specs.Elements.{places};
 ghost use Rattle.wire.specs.Format.{numberBytes, startOf, recordOf};
-ghost use Rattle.writer.specs.Writing.{bytesOf, writeSet, bufferAfter};
+ghost use Rattle.writer.specs.Writing.{bytesOf};
+ghost use Rattle.writer.specs.Contracts.{WriteSetSays};
 ghost use Rattle.model.specs.Buffers.{over};
 use crate::numbers::put_number;
 use model::Check;
@@ -104,7 +105,7 @@ fn put_records(set: TaskSet, out: &mut [u8])
 
 // Every check stands before the first byte is written.
 pub fn write_set(set: TaskSet, out: &mut [u8]) -> Written
-    ensures { λ r. ⌜ (r ≡ writeSet set (length (now (out .entry)))) × (now (out .exit) ≡ bufferAfter set (now (out .entry))) ⌝ }
+    ensures { λ r. ⌜ WriteSetSays set (now (out .entry)) r (now (out .exit)) ⌝ }
 {
     if let Check::TurnedAway(r) = check_set(set) {
         return Written::Refused(r);

@@ -25,8 +25,17 @@ write-all-requires-2 c κs = search needs
 returns : tie.Need-returns
 returns c = search needs
 
+array-read-if2 : tie.Need-array-read-if2
+array-read-if2 c = search needs
+
+say-how-many-requires : tie.Need-say-how-many-requires
+say-how-many-requires c κs = search needs
+
 returns-2 : tie.Need-returns-2
 returns-2 c = search needs
+
+returns-3 : tie.Need-returns-3
+returns-3 c = search needs
 
 pub print-spec : {M : Type 1} → statement M
 print-spec =
@@ -39,4 +48,7 @@ print-spec =
     slice-aggregate-write-all-2
     write-all-requires-2
     returns
-    returns-2)
+    array-read-if2
+    say-how-many-requires
+    returns-2
+    returns-3)

@@ -40,7 +40,7 @@ loop-holds c =
     let s = c .before .before .before .before in
     let p = legal-places _ (long s) (s .pre .0) in
     let e = c .lay .ensures in
-    start _ _ _ _ _ p (s .pre .1) (laid _ p _ _ _ _ _ _ refl refl refl (e .0) (e .1 .0) (e .1 .1))
+    start _ _ _ _ _ p (s .pre .1) (laid _ p _ _ _ _ _ _ refl refl refl (e .0) (e .1) (e .2))
 
 segment-requires : tie.Need-segment-requires Inv-loop μ-loop
 segment-requires c κs = search needs

@@ -4,8 +4,6 @@ use native.Mathlib.Nat.{mod-lt, pos-of-ne-zero}
 use borrow.Author.Needs.{needs}
 use Rattle.model.specs.Number.{gcd}
 use Rattle.model.proofs.NumberLaws.{gcd-step, gcd-zero}
-use Rattle.model.specs.Number.{gcd}
-use Rattle.model.proofs.NumberLaws.{gcd-step, gcd-zero}
 use Rattle.load.proofs.demand.gcd.Statement.{statement}
 use Rattle.load.proofs.demand.gcd.Tie as tie
 

@@ -2,6 +2,7 @@
 use Prim.Native.Nat.{_-_}
 use mathlib.Core.Path.{_≡_, sym, _∙_}
 use mathlib.Core.Logic.{⊎-elim}
+use native.Mathlib.Omega.{arith}
 use lib.ListN.{length, length-map}
 use borrow.Author.Needs.{needs}
 use Rattle.model.specs.Elements.{places}
@@ -30,14 +31,8 @@ mul-e c = search needs
 element-copy-out-e : tie.Need-element-copy-out-e Inv-loop μ-loop
 element-copy-out-e c = search needs
 
-cast-first : tie.Need-cast-first Inv-loop μ-loop
-cast-first c = search needs
-
-cast-first-2 : tie.Need-cast-first-2 Inv-loop μ-loop
-cast-first-2 c = search needs
-
-add-first : tie.Need-add-first Inv-loop μ-loop
-add-first c = search needs
+first-due-requires : tie.Need-first-due-requires Inv-loop μ-loop
+first-due-requires c κs = search needs
 
 add-i : tie.Need-add-i Inv-loop μ-loop
 add-i c = search needs
@@ -47,9 +42,13 @@ loop-less c = search needs
 
 loop-again : tie.Need-loop-again Inv-loop μ-loop
 loop-again c =
-    let k = c .before .before .before .before .before .loop .inv in
-    let h = c .before .before .before .before .loop-test .taken in
-    ⊎-elim (λ w. rw (w .1) (largest-taken _ _ _ _ k h (w .0 .taken))) (λ w. rw (w .1) (largest-kept _ _ _ _ k h (w .0 .left))) (c .if1 .came)
+    let k = c .before .before .before .before .loop .inv in
+    let h = c .before .before .before .loop-test .taken in
+    let first = c .before .first-due .ensures in
+    ⊎-elim
+    (λ w. rw (w .1) (rw first (largest-taken _ _ _ _ k h (omega (arith, first, w .0 .taken)))))
+    (λ w. rw (w .1) (largest-kept _ _ _ _ k h (omega (arith, first, w .0 .left))))
+    (c .if1 .came)
 
 returns : tie.Need-returns Inv-loop μ-loop
 returns c = largest-end _ _ _ _ (c .before .loop .inv) (c .loop-test .left) ∙ first-is _
@@ -63,9 +62,7 @@ largest-first-spec =
     loop-holds
     mul-e
     element-copy-out-e
-    cast-first
-    cast-first-2
-    add-first
+    first-due-requires
     add-i
     loop-less
     loop-again

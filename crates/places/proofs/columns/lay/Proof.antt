@@ -39,14 +39,8 @@ mul-step c = search needs
 element-write-step : tie.Need-element-write-step Inv-loop μ-loop
 element-write-step c = search needs
 
-cast-next : tie.Need-cast-next Inv-loop μ-loop
-cast-next c = search needs
-
-cast-next-2 : tie.Need-cast-next-2 Inv-loop μ-loop
-cast-next-2 c = search needs
-
-add-next : tie.Need-add-next Inv-loop μ-loop
-add-next c = search needs
+first-due-requires : tie.Need-first-due-requires Inv-loop μ-loop
+first-due-requires c κs = search needs
 
 mul-next : tie.Need-mul-next Inv-loop μ-loop
 mul-next c = search needs
@@ -70,10 +64,12 @@ loop-less : tie.Need-loop-less Inv-loop μ-loop
 loop-less c = search needs
 
 loop-again : tie.Need-loop-again Inv-loop μ-loop
-loop-again c = rw (c .before .before .before .step-of .ensures) (more (c .before .before .before .before .before .before .loop .inv) (omega arith))
+loop-again c =
+    rw (c .before .before .step-of .ensures, c .before .first-due .ensures)
+    (more (c .before .before .before .before .before .loop .inv) (omega arith))
 
 returns : tie.Need-returns Inv-loop μ-loop
-returns c = let e = end (c .before .loop .inv) (omega (arith, c .loop-test .left)) in (e .0, (e .1, e .2))
+returns c = let e = end (c .before .loop .inv) (omega (arith, c .loop-test .left)) in (e .0, e .1, e .2)
 
 pub lay-spec : {M : Type 1} → statement M
 lay-spec =
@@ -87,9 +83,7 @@ lay-spec =
     step-of-requires
     mul-step
     element-write-step
-    cast-next
-    cast-next-2
-    add-next
+    first-due-requires
     mul-next
     element-write-next
     cast-cost

@@ -1,5 +1,6 @@
 -- `superposition_test::walk::last_of` meets its contract. Assumes nothing.
 use Prim.Native.Nat.{_+_, _*_, _-_, _≤_}
+use mathlib.Core.Path.{_∙_}
 use native.Mathlib.Omega.{arith}
 use Rattle.model.proofs.ElementLaws.{legal-is}
 use Rattle.theory.specs.Sizes.{mostLength}
@@ -8,14 +9,8 @@ use borrow.Author.Needs.{needs}
 use Rattle.superposition_test.proofs.walk.last_of.Statement.{statement}
 use Rattle.superposition_test.proofs.walk.last_of.Tie as tie
 
-cast-first : tie.Need-cast-first
-cast-first c = search needs
-
-cast-first-2 : tie.Need-cast-first-2
-cast-first-2 c = search needs
-
-add-first : tie.Need-add-first
-add-first c = search needs
+first-due-requires : tie.Need-first-due-requires
+first-due-requires c κs = search needs
 
 enum-told : tie.Need-enum-told
 enum-told c = search needs
@@ -31,12 +26,12 @@ cast-result c = search needs
 
 -- m, and that it is small
 first-and-rest : (c : tie.After-known-told) →
-    let a = c .before .before .before .before .before .args in
-    a .e .offset + a .e .deadline + (a .k - 1) * c .before .period .given .0 .0 ≤ mostLength
+    c .before .before .before .first-due .result + (c .before .before .before .before .args .k - 1) * c .before .period .given .0 .0 ≤ mostLength
 first-and-rest c =
-    let s = c .before .before .before .before .before in
+    let s = c .before .before .before .before in
     omega (
       arith,
+      c .before .before .before .first-due .ensures,
       last-every (s .args .k) (s .args .e) (c .before .period .given .1),
       last-most (s .args .k) (s .args .e) (s .pre .1 .1) (legal-is _ (s .pre .0)),
     )
@@ -48,18 +43,16 @@ add-result : tie.Need-add-result
 add-result c = omega (arith, first-and-rest c)
 
 returns : tie.Need-returns
-returns c = last-once _ (c .before .before .before .before .args .e) (c .enum-told .given .1)
+returns c = c .before .before .first-due .ensures ∙ last-once _ (c .before .before .before .args .e) (c .enum-told .given .1)
 
 returns-2 : tie.Need-returns-2
-returns-2 c = last-every _ (c .before .before .before .before .before .args .e) (c .before .period .given .1)
+returns-2 c = rw (c .before .before .before .first-due .ensures) (last-every _ (c .before .before .before .before .args .e) (c .before .period .given .1))
 
 pub last-of-spec : {M : Type 1} → statement M
 last-of-spec =
     tie.close
     (tie.spec
-    cast-first
-    cast-first-2
-    add-first
+    first-due-requires
     enum-told
     enum-known-period
     sub-result

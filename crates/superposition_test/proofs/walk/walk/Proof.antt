@@ -31,7 +31,7 @@ columns : (c : tie.After-lay Inv-loop μ-loop) → Laid (c .before .before .befo
 columns c =
     let s = c .before .before .before .before in
     let e = c .lay .ensures in
-    laid _ (legal-places _ (long s) (s .pre .legal)) _ _ _ _ _ _ refl refl refl (e .0) (e .1 .0) (e .1 .1)
+    laid _ (legal-places _ (long s) (s .pre .legal)) _ _ _ _ _ _ refl refl refl (e .0) (e .1) (e .2)
 
 lay-limits-requires : tie.Need-lay-limits-requires Inv-loop μ-loop
 lay-limits-requires c κs =

@@ -1,4 +1,4 @@
--- `printer::report::put_verdicts` meets its contract. Assumes nothing.
+-- `verdict::report::put_verdicts` meets its contract. Assumes nothing.
 use borrow.Author.Needs.{needs}
 use Rattle.verdict.specs.Printed.{printed}
 use Rattle.verdict.proofs.report.put_verdicts.Statement.{statement}
