@@ -121,7 +121,7 @@ static int check_printed(void)
 {
     struct held held = hold_to_printed(&archive);
     put_number(held.answers);
-    put_text(" answers that documents print: in ");
+    put_text(" answers held to what is written: in ");
     put_number(held.oracle_differs);
     put_text(" the oracle differs, in ");
     put_number(held.called_differs);

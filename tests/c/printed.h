@@ -1,5 +1,6 @@
-/* The answers that documents print. The oracle and the functions called are held to them, each by itself: where both were
-   wrong alike, a comparison of the two would not show it. */
+/* Answers that are written: those that documents print, and of the known sets what docs/COMPARISON.md adds. The oracle and
+   the functions called are held to them, each by itself: where both were wrong alike, a comparison of the two would not
+   show it. */
 #ifndef PRINTED_H
 #define PRINTED_H
 

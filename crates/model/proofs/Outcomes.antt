@@ -8,7 +8,7 @@ use Rattle.model.specs.declared.answers.Verdict.{Verdict}
 use Rattle.model.specs.declared.answers.Verdict.the-variants.{Passes, Overrun, LoadAboveOne, NotShown}
 use Rattle.model.specs.declared.answers.Values.{Values}
 use Rattle.model.specs.Answers.{values}
-use Rattle.model.specs.Contracts.{FillerSays, EmptySetSays, FirstDueSays, CheckElementSays, CheckSetSays, CheckKSays, ValuesSay}
+use Rattle.model.specs.Contracts.{FillerSays, EmptySetSays, FirstDueSays, CheckElementSays, CheckSetSays, CheckKSays, ValuesOfSays}
 use Rattle.model.specs.Promises.{Promises}
 use Rattle.model.proofs.elements
 use Rattle.model.proofs.checks
@@ -33,7 +33,7 @@ check-set-keeps = record { met = λ M. checks.check_set.Met.met }
 pub check-k-keeps : Promises checks.check_k.ended checks.check_k.Symbol.routine (λ κs given r after. CheckKSays (given .0) r)
 check-k-keeps = record { met = λ M. checks.check_k.Met.met }
 
-pub values-of-keeps : Promises answers.values_of.ended answers.values_of.Symbol.routine (λ κs given r after. ValuesSay (given .0) r)
+pub values-of-keeps : Promises answers.values_of.ended answers.values_of.Symbol.routine (λ κs given r after. ValuesOfSays (given .0) r)
 values-of-keeps = record { met = λ M. answers.values_of.Met.met }
 
 -- NO TWO OUTCOMES
@@ -55,7 +55,7 @@ set-check-is-decided t a b p q = p ∙ sym q
 pub k-check-is-decided : (k : ℕ) (a b : Check) → CheckKSays k a → CheckKSays k b → a ≡ b
 k-check-is-decided k a b p q = p ∙ sym q
 
-pub values-are-decided : (v : Verdict) (a b : Values) → ValuesSay v a → ValuesSay v b → a ≡ b
+pub values-are-decided : (v : Verdict) (a b : Values) → ValuesOfSays v a → ValuesOfSays v b → a ≡ b
 values-are-decided v a b p q = p ∙ sym q
 
 -- WHAT THE VALUES TELL

@@ -29,5 +29,5 @@ CheckSetSays t r = r ≡ checkSet t
 abbrev pub CheckKSays : ℕ → Check → Type 0
 CheckKSays k r = r ≡ checkK k
 
-abbrev pub ValuesSay : Verdict → Values → Type 0
-ValuesSay v r = r ≡ values v
+abbrev pub ValuesOfSays : Verdict → Values → Type 0
+ValuesOfSays v r = r ≡ values v

@@ -1,6 +1,6 @@
 // The answer of an analysis, and document 01's numbers for each case. specs/Answers.antt defines them.
 ghost use mathlib.Core.Path.{_≡_};
-ghost use Rattle.model.specs.Contracts.{ValuesSay};
+ghost use Rattle.model.specs.Contracts.{ValuesOfSays};
 
 // A row of document 01's table of what is turned away, with its place.
 pub struct Refusal {
@@ -68,7 +68,7 @@ fn four(verdict: u64, interval: u64, demand: u64, count: u64) -> Values
 }
 
 pub fn values_of(verdict: Verdict) -> Values
-    ensures { λ r. ⌜ ValuesSay verdict r ⌝ }
+    ensures { λ r. ⌜ ValuesOfSays verdict r ⌝ }
 {
     match verdict {
         Verdict::Passes { count } => four(0, 0, 0, count),

@@ -2,7 +2,6 @@ pub mod Multiples
 pub mod TestLengths
 pub mod Exactness
 pub mod Approximation
-pub mod Taken
 pub mod Growth
 pub mod Places
 pub mod Sizes

@@ -49,7 +49,7 @@ reads-set s es k =
       append-nil,
     )
 
-pub reads-refused : (s : List ℕ) (number place : ℕ) → AreRefused s number place → readSet s ≡ handedBack (turned number place) emptySet
+reads-refused : (s : List ℕ) (number place : ℕ) → AreRefused s number place → readSet s ≡ handedBack (turned number place) emptySet
 unfolding readSet
 reads-refused s number place k =
     let n = left (k .before) (k .from) (k .legal) (k .few) in
