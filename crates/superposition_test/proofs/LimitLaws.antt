@@ -2,20 +2,18 @@
 use Prim.Native.Nat.{ℕ, _+_, _*_, _-_, _/_, _≤_, _<_}
 use mathlib.Core.Path.{_≡_, refl, ap, sym, _∙_}
 use mathlib.Core.List.{List}
-use native.Mathlib.Nat.{mul-le-mul, div-eq-of-lt}
+use native.Mathlib.Nat.{div-eq-of-lt}
 use native.Mathlib.Omega.{arith}
 use lib.ListN.{length, getD, set, length-set}
 use Rattle.model.specs.declared.elements.Period.{Period}
 use Rattle.model.specs.declared.elements.Period.the-variants.{Once, Every}
 use Rattle.model.specs.declared.elements.Element.{Element}
 use Rattle.model.specs.declared.elements.TaskSet.{TaskSet}
-use Rattle.model.specs.Elements.{mostPeriod, places, mostH, mostK}
+use Rattle.model.specs.Elements.{places, mostH}
 use Rattle.model.specs.Demand.{f, turns}
 use Rattle.model.specs.Superposition.{exactPart, m}
-use Rattle.model.proofs.ElementLaws.{Runs, Legal}
 use Rattle.theory.specs.Growth.{riseOf}
 use Rattle.theory.specs.Places.{elementAt}
-use Rattle.theory.specs.Sizes.{mostLength}
 use Rattle.places.specs.Columns.{stepOf, stepIn}
 use Rattle.superposition_test.specs.Walk.{Limited}
 use Rattle.theory.proofs.PlaceLaws.{LegalPlaces, column}
@@ -27,14 +25,6 @@ module _ (k : ℕ) (e : Element) where
 
   pub last-every : {p : ℕ} → e .period ≡ Every p → f e + (k - 1) * p ≡ m k e
   last-every eq = ap (λ q. f e + exactPart q k) (sym eq)
-
-  pub last-most : k ≤ mostK → Legal e → m k e ≤ mostLength
-  last-most u g = go (e .period) (g .period)
-    where
-      go : (q : Period) → Runs q → f e + exactPart q k ≤ mostLength
-      go Once r = omega (arith, g .offset, g .deadline)
-      go (Every p) r =
-          omega (arith, g .offset, g .deadline, mul-le-mul {n₁ = k - 1} {m₁ = p} {n₂ = 254} {m₂ = mostPeriod} (omega arith) (r .1))
 
 turns-by-step : (q : Period) (h : ℕ) → h ≤ mostH → h / stepOf q ≡ turns q h
 turns-by-step Once h l = div-eq-of-lt (omega arith)

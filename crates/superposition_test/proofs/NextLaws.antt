@@ -25,7 +25,7 @@ no-rise true = refl
 no-rise false = refl
 
 module _ (k : ℕ) (e : Element) where
-  pub visited-low : (I : ℕ) → isVisitedBy k I e ≡ true → I ≤ m k e
+  visited-low : (I : ℕ) → isVisitedBy k I e ≡ true → I ≤ m k e
   visited-low I t = leb-true I (m k e) (and-right (isTestOf e I) (leb I (m k e)) t)
 
   visited-date : (I : ℕ) → isVisitedBy k I e ≡ true → IsDate (e .period) (f e) I

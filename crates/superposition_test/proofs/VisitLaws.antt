@@ -10,7 +10,7 @@ use lib.ListN.{getD}
 use Rattle.model.specs.declared.elements.Element.{Element}
 use Rattle.model.specs.declared.elements.TaskSet.{TaskSet}
 use Rattle.model.specs.Over.{sumOver}
-use Rattle.model.specs.Elements.{mostK, filler, counted}
+use Rattle.model.specs.Elements.{filler, counted}
 use Rattle.model.specs.Demand.{H}
 use Rattle.model.specs.Superposition.{m, isVisited}
 use Rattle.model.proofs.Cases.{test, clash, lt-or-le}
@@ -20,11 +20,9 @@ use Rattle.theory.specs.Growth.{costOf, isVisitedBy, visitedDueAt, isLastBy, ri
 use Rattle.superposition_test.specs.declared.walk.Moved.{Moved}
 use Rattle.theory.specs.Places.{elementAt, sumTo}
 use Rattle.places.specs.Columns.{stepOf}
-use Rattle.theory.specs.Sizes.{mostLength}
 use Rattle.superposition_test.specs.Walk.{none, Least, MovedOn}
 use Rattle.theory.proofs.PlaceLaws.{LegalPlaces, sum-places, sum-to-same}
-use Rattle.superposition_test.proofs.LimitLaws.{last-most}
-use Rattle.superposition_test.proofs.NextLaws.{NextOf, visited-low, next-miss, next-hit, next-visits, next-rises}
+use Rattle.superposition_test.proofs.NextLaws.{NextOf, next-miss, next-hit, next-visits, next-rises}
 
 -- what stays the same of each place
 pub record Columns (t : TaskSet) (k : ℕ) (step cost last rise : List ℕ) : Type 0 where
@@ -51,12 +49,6 @@ module _ (t : TaskSet) (p : LegalPlaces t) (k : ℕ) where
       let w = some-at (counted t) (isVisitedBy k I) filler v in
       let l : w .0 < t .count = omega (arith, w .1, counted-long t (p .long) (p .few)) in
       (w .0, l, rw (counted-at t (p .long) (p .few) filler (w .0) l) at (w .2))
-
-  pub visited-most : k ≤ mostK → (I : ℕ) → isVisited k (counted t) I ≡ true → I ≤ mostLength
-  visited-most u I v =
-      let w = visits-place I v in
-      let e = elementAt t (w .0) in
-      omega (arith, visited-low k e I (w .2), last-most k e u (p .legal (w .0) (w .1)))
 
   sum-of-places :
       (g : ℕ → ℕ) (q : Element → ℕ) → ((i : ℕ) → i < t .count → g i ≡ q (elementAt t i)) → sumTo g (t .count) ≡ sumOver (counted t) q

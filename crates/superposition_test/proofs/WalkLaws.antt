@@ -43,9 +43,9 @@ use Rattle.places.proofs.SumLaws.{sum-tells}
 use Rattle.theory.proofs.ComparingLaws.{Upto, upto-zero, upto-gap, upto-more, compared-large, compared-failing, compared-clear}
 use Rattle.places.proofs.ColumnLaws.{step-within}
 use Rattle.theory.proofs.LoadLaws.{rise-most}
-use Rattle.theory.proofs.SizeLaws.{demand-small}
+use Rattle.theory.proofs.SizeLaws.{visited-small, demand-small}
 use Rattle.superposition_test.proofs.NextLaws.{not-at-zero, next-start}
-use Rattle.superposition_test.proofs.VisitLaws.{Columns, Nexts, visits-place, visited-most, quiet, at-later, at-visited}
+use Rattle.superposition_test.proofs.VisitLaws.{Columns, Nexts, visits-place, quiet, at-later, at-visited}
 use Rattle.superposition_test.proofs.VisitLaws.{moved-nexts, moved-due, moved-rise}
 
 module _ (t : TaskSet) (k h : ℕ) where
@@ -165,7 +165,7 @@ module _ (t : TaskSet) (k h : ℕ) where
 
     pub none-left : Least next (t .count) none → Given (Passes count) ≡ answer
     none-left l = done (λ I v. ⊎-elim
-        (λ a. absurd (clash v (quiet t (w .set) k before none next (w .nexts) l I a (omega (arith, visited-most t (w .set) k (w .fit .high) I v)))))
+        (λ a. absurd (clash v (quiet t (w .set) k before none next (w .nexts) l I a (omega (arith, visited-small (counted t) (w .set .all) k (w .fit .high) I v)))))
         (λ a. omega arith)
         (lt-or-le before I))
 
@@ -175,7 +175,7 @@ module _ (t : TaskSet) (k h : ℕ) where
       visit = at-visited t (w .set) k before at next (w .nexts) l b
 
       high : at ≤ mostLength
-      high = visited-most t (w .set) k (w .fit .high) at visit
+      high = visited-small (counted t) (w .set .all) k (w .fit .high) at visit
 
       later : before < at
       later = at-later t (w .set) k before at next (w .nexts) l b
@@ -299,7 +299,7 @@ module _ (t : TaskSet) (k h : ℕ) where
           let s = counted t in
           rw (
             not-large at (omega (arith, w .low)),
-            not-large (D s at) (omega (arith, demand-small s (w .set .all) (w .set .short) at (w .low))),
+            not-large (D s at) (omega (arith, demand-small s (w .set .all) (w .set .short) at, w .low)),
             not-large (H s * at) (omega (arith, w .top-small, top-is)),
             not-large (HD' k s at) (omega (arith, w .sum, sum-tells scaled (slope * (at - before) + due * h) g .1)),
           )

@@ -25,7 +25,7 @@ use Rattle.model.proofs.TurnedAwayLaws.{not-large}
 use Rattle.theory.specs.Comparing.{refusedBy, compared, lengthsBelow, isLargeWith}
 use Rattle.theory.proofs.ExactTestLaws.{load-above, load-at-most}
 use Rattle.theory.proofs.SizeLaws.{load-small}
-use Rattle.theory.proofs.OverloadLaws.{overload-fits}
+use Rattle.theory.proofs.ElevenIsNeverMet.{overload-fits}
 use Rattle.theory.proofs.TakenSetsAreLegal.{fine-is-legal}
 
 -- what is checked before 8 decides, then 8, or nothing of it

@@ -18,9 +18,11 @@ pub mod SuperpositionAnswers
 pub mod SuperpositionIsSafe
 pub mod SuperpositionIsClose
 pub mod SuperpositionIsShort
+pub mod EverySumFits
+pub mod TakenSetsAreLegal
+pub mod ElevenIsNeverMet
 pub mod NothingPastTheCount
 pub mod StarredSums
-pub mod TakenSetsAreLegal
 pub mod ComparingLaws
 pub mod AnswerLaws
 pub mod PlaceLaws

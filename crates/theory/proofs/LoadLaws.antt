@@ -11,13 +11,12 @@ use Rattle.model.specs.declared.elements.Period.the-variants.{Once, Every}
 use Rattle.model.specs.declared.elements.Element.{Element}
 use Rattle.model.specs.Number.{gcd, lcm}
 use Rattle.model.specs.Over.{sumOver, largestOver}
-use Rattle.model.specs.Elements.{mostPeriod, mostH, isPeriod}
+use Rattle.model.specs.Elements.{mostPeriod, mostCost, mostH, isPeriod}
 use Rattle.model.specs.Demand.{f, F, joined, dues, demandOf, D, turns, loadIn}
 use Rattle.theory.specs.Growth.{riseOf}
 use Rattle.model.proofs.Cases.{lt-or-le}
 use Rattle.model.proofs.ElementLaws.{Within, Legal, period-is}
 use Rattle.theory.proofs.DemandLaws.{early, late}
-use Rattle.theory.specs.Sizes.{mostLength}
 
 -- A PERIOD
 module _ (q : Period) (p : ℕ) (eq : q ≡ Every p) where
@@ -40,15 +39,15 @@ module _ (e : Element) (l : Legal e) where
   pub rise-most : (h : ℕ) → h ≤ mostH → riseOf h e ≤ 18014398509481984
   rise-most h b = mul-le-mul {n₂ = 16777216} {m₂ = 1073741824} (l .cost .1) (omega (arith, turns-most (e .period) h))
 
-  dues-most : (q : Period) (x : ℕ) → x ≤ mostLength → dues q x ≤ 4294967297
-  dues-most Once x b = omega arith
-  dues-most (Every p) x b = omega (arith, div-le-self x p)
+  dues-most : (q : Period) (x : ℕ) → dues q x ≤ x + 1
+  dues-most Once x = omega arith
+  dues-most (Every p) x = omega (arith, div-le-self x p)
 
-  pub demand-most : (I : ℕ) → I ≤ mostLength → f e ≤ I → dues (e .period) (I - f e) * e .cost ≤ 72057594054705152
-  demand-most I b h = mul-le-mul {n₂ = 4294967297} {m₂ = 16777216} (dues-most (e .period) (I - f e) (omega arith)) (l .cost .1)
+  pub demand-most : (I : ℕ) → f e ≤ I → dues (e .period) (I - f e) * e .cost ≤ (I + 1) * mostCost
+  demand-most I h = mul-le-mul {n₂ = I + 1} {m₂ = mostCost} (omega (arith, dues-most (e .period) (I - f e))) (l .cost .1)
 
-  pub demandOf-most : (I : ℕ) → I ≤ mostLength → demandOf e I ≤ 72057594054705152
-  demandOf-most I b = ⊎-elim (λ h. omega (arith, early e I h)) (λ h. omega (arith, late e I h, demand-most I b h)) (lt-or-le I (f e))
+  pub demandOf-most : (I : ℕ) → demandOf e I ≤ (I + 1) * mostCost
+  demandOf-most I = ⊎-elim (λ h. omega (arith, early e I h)) (λ h. omega (arith, late e I h, demand-most I h)) (lt-or-le I (f e))
 
 module _ (e : Element) (I : ℕ) (h : f e ≤ I) where
   pub demand-once : e .period ≡ Once → e .cost ≡ demandOf e I

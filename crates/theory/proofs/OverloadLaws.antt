@@ -1,29 +1,21 @@
 -- Verdict 2 by one division: with Q above H, the first overrun among F, F + H, F + 2H and so on. Assumes nothing.
-use Prim.Native.Nat.{ℕ, suc, _+_, _*_, _-_, _/_, _≤_, _<_}
-use mathlib.Core.Path.{_≡_, refl, ap, ap₂, subst, _∙_}
+use Prim.Native.Nat.{ℕ, _+_, _*_, _-_, _/_, _≤_, _<_}
+use mathlib.Core.Path.{_≡_, refl, ap, ap₂, _∙_}
 use mathlib.Core.Bool.{true, false}
 use mathlib.Core.List.{List}
-use mathlib.Core.Logic.{⊎-elim}
 use native.Mathlib.Omega.{arith}
 use native.Mathlib.Nat.{mul-le-mul, mul-le-mul-right, add-mul, mul-add, div-le-self, div-mul-le-self, lt-div-mul-add}
 use lib.ListN.{length}
 use Rattle.model.specs.declared.elements.Element.{Element}
-use Rattle.model.specs.declared.answers.Verdict.{Verdict}
 use Rattle.model.specs.declared.answers.Verdict.the-variants.{LoadAboveOne}
-use Rattle.model.specs.Number.{someBelow}
-use Rattle.model.specs.Elements.{places, mostH, AllLegal}
+use Rattle.model.specs.Elements.{places, AllLegal}
 use Rattle.model.specs.Demand.{F, H, D, Q}
 use Rattle.model.specs.ExactTest.{isOverrun, multiple, overloadAt, overload}
-use Rattle.model.specs.Answers.{values}
-use Rattle.model.specs.TurnedAway.{isLargeAt}
-use Rattle.model.proofs.Cases.{lt-or-le}
-use Rattle.model.proofs.NumberLaws.{IsFirst, least-at, none-below}
-use Rattle.model.proofs.TurnedAwayLaws.{not-large}
+use Rattle.model.proofs.NumberLaws.{IsFirst, least-at}
 use Rattle.theory.proofs.ExactTestLaws.{is-overrun, not-overrun}
 use Rattle.theory.proofs.DemandRepeats.{demand-at-multiple}
-use Rattle.theory.proofs.DemandRises.{demand-rises}
 use Rattle.theory.specs.Sizes.{IsLoad}
-use Rattle.theory.proofs.SizeLaws.{first-small, load-small, demand-small}
+use Rattle.theory.proofs.SizeLaws.{first-small, load-small}
 
 module _ (s : List Element) (legal : AllLegal s) where
   multiple-is : (j : ℕ) → multiple s j ≡ F s + j * H s
@@ -107,32 +99,3 @@ module _ (s : List Element) (legal : AllLegal s) (few : length s ≤ places) (fi
                 mul-le-mul-right {m = j} {n = (first - d) / (q - h)} (q - h) (omega arith),
               ));
         })
-
--- what is shown fits
-module _ (s : List Element) (legal : AllLegal s) (few : length s ≤ places) (small : H s ≤ mostH) (heavy : H s < Q s) where
-  abbrev Small : Verdict → Type 0
-  Small v = (values v .interval ≤ 18446744073709551615) × (values v .demand ≤ 18446744073709551615)
-
-  overload-small : Small (overload s)
-  overload-small =
-      let w : IsLoad s (F s) (H s) (Q s) = record { firsts = refl; multiple = refl; load = refl; small = small } in
-      ⊎-elim
-      (λ (o : F s < D s (F s)).
-      subst Small (at-first s legal few (F s) (H s) (Q s) w heavy (D s (F s)) refl o)
-      (omega (arith, first-small s legal), omega (arith, demand-small s legal few (F s) (omega (arith, first-small s legal)))))
-      (λ (o : D s (F s) ≤ F s).
-      subst Small (at-later s legal few (F s) (H s) (Q s) w heavy (D s (F s)) refl o) (
-        omega (arith, first-small s legal, later-ticks s legal few (F s) (H s) (Q s) w heavy (D s (F s)) refl o),
-        omega (arith, first-small s legal, later-demand s legal few (F s) (H s) (Q s) w heavy (D s (F s)) refl o),
-      ))
-      (lt-or-le (F s) (D s (F s)))
-
-  -- so 11 is not met: no length up to the interval has more demand
-  pub overload-fits : someBelow (isLargeAt s) (suc (overloadAt s)) ≡ false
-  unfolding overload isLargeAt
-  overload-fits =
-      none-below (isLargeAt s) (suc (overloadAt s))
-      (λ J l. rw (
-        not-large J (omega (arith, overload-small .0)),
-        not-large (D s J) (omega (arith, demand-rises s J (overloadAt s) legal (omega arith), overload-small .1)),
-      ))

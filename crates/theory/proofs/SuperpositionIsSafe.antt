@@ -22,7 +22,7 @@ use Rattle.theory.proofs.HyperperiodIsLeast.{hyperperiod-is-positive, h
 use Rattle.theory.proofs.SuperpositionAnswers.{superposition-answers}
 
 module _ (k h : ℕ) (s : List Element) (l : 1 ≤ k) (legal : Each s Legal) where
-  scaled-above : (I : ℕ) → CommonMultiple s h → h * D s I ≤ scaledIn k h s I
+  pub scaled-above : (I : ℕ) → CommonMultiple s h → h * D s I ≤ scaledIn k h s I
   unfolding D scaledIn
   scaled-above I c =
       omega (

@@ -17,7 +17,7 @@ use Rattle.theory.specs.Multiples.{Divides}
 use Rattle.theory.specs.Growth.{isVisitedBy, riseOf}
 use Rattle.model.proofs.Cases.{lt-or-le}
 use Rattle.model.proofs.ElementLaws.{Runs, Legal}
-use Rattle.theory.proofs.DemandLaws.{late, demandOf-steps, demandOf-zero}
+use Rattle.theory.proofs.DemandLaws.{early, late, demandOf-steps, demandOf-zero}
 
 module _ (k h : ℕ) (l : 1 ≤ k) where
   -- THE LINE of one unit of cost, x ticks past m; flat for a single event
@@ -103,6 +103,39 @@ module _ (k h : ℕ) (l : 1 ≤ k) where
       (λ b. rw (near e I (omega arith)) (omega arith))
       (λ b. let u = mul-le-mul-right (e .cost) (line-below (e .period) (I - m k e) (g .period) d) in
       rw (far e I (g .period) b, past e I b) (omega arith))
+      (lt-or-le I (m k e))
+
+  -- it is UNDER the line of its load, one cost higher
+  dues-under : (q : Period) (x : ℕ) → Divides q h → h * dues q x ≤ x * turns q h + h
+  dues-under Once x d = omega arith
+  dues-under (Every p) x d =
+      let c = mul-div-cancel' p d in
+      let u = mul-le-mul-left (h / p) (div-mul-le-self x p) in
+      let v = ap (λ z. z * (x / p)) c in
+      omega arith
+
+  line-under : (q : Period) (x : ℕ) → Divides q h → line q x ≤ (exactPart q k + x) * turns q h + h
+  unfolding line
+  line-under Once x d = omega arith
+  line-under (Every p) x d =
+      let c = mul-div-cancel' p d in
+      let v = ap (λ z. z * (k - 1)) c in
+      let w : k ≡ k - 1 + 1 = omega arith in
+      omega (arith, ap (λ z. h * z) w)
+
+  pub under : (I : ℕ) (e : Element) → Legal e → Divides (e .period) h → scaledBy (e .period) k h e I ≤ I * riseOf h e + h * e .cost
+  under I e g d = ⊎-elim
+      (λ (b : I < m k e). ⊎-elim
+      (λ (i : I < f e). rw (near e I (omega arith), early e I i) (omega arith))
+      (λ (i : f e ≤ I).
+      let u = mul-le-mul-right (e .cost) (dues-under (e .period) (I - f e) d) in
+      let w = mul-le-mul-right (riseOf h e) (let v : I - f e ≤ I = omega arith in v) in
+      rw (near e I (omega arith), late e I i) (omega arith))
+      (lt-or-le I (f e)))
+      (λ (b : m k e ≤ I).
+      let u = mul-le-mul-right (e .cost) (line-under (e .period) (I - m k e) d) in
+      let w = mul-le-mul-right (riseOf h e) (let v : exactPart (e .period) k + (I - m k e) ≤ I = omega arith in v) in
+      rw (far e I (g .period) b) (omega arith))
       (lt-or-le I (m k e))
 
   -- it STEPS in a tick by the cost, up to m, and past m by the line

@@ -37,7 +37,7 @@ add-demand : tie.Need-add-demand Inv-loop μ-loop
 add-demand c =
     let s = c .before .before .before .before in
     let a = c .before .before .before .loop .inv in
-    rw (c .demand-of .ensures) (omega (arith, adding-fits _ _ _ _ a _ (c .before .before .loop-test .taken) (λ j l. demandOf-most _ (a .set .legal j l) _ (s .pre .1))))
+    rw (c .demand-of .ensures) (omega (arith, adding-fits _ _ _ _ a _ (c .before .before .loop-test .taken) (λ j l. demandOf-most _ (a .set .legal j l) _), s .pre .1))
 
 add-i : tie.Need-add-i Inv-loop μ-loop
 add-i c = search needs

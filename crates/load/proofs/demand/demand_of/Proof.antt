@@ -38,7 +38,7 @@ mul-result : tie.Need-mul-result
 mul-result c =
     let s = c .before .before .before .before .before .before in
     rw (c .before .before .before .before .before .first-due .ensures)
-    (omega (arith, demand-every (s .args .e) (s .args .length) (omega arith) _ (c .before .period .given .1), demand-most _ (legal-is _ (s .pre .0)) _ (s .pre .1) (omega arith)))
+    (omega (arith, demand-every (s .args .e) (s .args .length) (omega arith) _ (c .before .period .given .1), demand-most _ (legal-is _ (s .pre .0)) (s .args .length) (omega arith), s .pre .1))
 
 returns-2 : tie.Need-returns-2
 returns-2 c = demand-once _ _ (omega (arith, c .before .before .before .before .first-due .ensures)) (c .enum-told .given .1)

@@ -4,7 +4,8 @@ use mathlib.Core.Path.{_∙_}
 use native.Mathlib.Omega.{arith}
 use Rattle.model.proofs.ElementLaws.{legal-is}
 use Rattle.theory.specs.Sizes.{mostLength}
-use Rattle.superposition_test.proofs.LimitLaws.{last-once, last-every, last-most}
+use Rattle.theory.proofs.SizeLaws.{last-most}
+use Rattle.superposition_test.proofs.LimitLaws.{last-once, last-every}
 use borrow.Author.Needs.{needs}
 use Rattle.superposition_test.proofs.walk.last_of.Statement.{statement}
 use Rattle.superposition_test.proofs.walk.last_of.Tie as tie
@@ -33,7 +34,7 @@ first-and-rest c =
       arith,
       c .before .before .before .first-due .ensures,
       last-every (s .args .k) (s .args .e) (c .before .period .given .1),
-      last-most (s .args .k) (s .args .e) (s .pre .1 .1) (legal-is _ (s .pre .0)),
+      last-most (s .args .k) (s .pre .1 .1) (s .args .e) (legal-is _ (s .pre .0)),
     )
 
 mul-result : tie.Need-mul-result
