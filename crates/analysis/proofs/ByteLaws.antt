@@ -1,7 +1,7 @@
 -- What holds whenever `kind_byte` turns to the record i, and where 8 stands in bytes. Assumes nothing.
 use Prim.Native.Nat.{ℕ, zero, suc, _+_, _-_, _≤_, _<_}
 use mathlib.Core.Path.{_≡_, refl, sym, ap, _∙_}
-use mathlib.Core.Bool.{Bool, true, false, not, cond}
+use mathlib.Core.Bool.{Bool, true, false, cond}
 use mathlib.Core.List.{List}
 use mathlib.Core.Logic.{⊎-elim}
 use native.Mathlib.Omega.{arith}
@@ -16,7 +16,7 @@ use Rattle.model.specs.declared.answers.Answer.{Answer}
 use Rattle.model.specs.declared.answers.Answer.the-variants.{Refused}
 use Rattle.model.specs.Elements.{places, mostH}
 use Rattle.model.specs.Demand.{H}
-use Rattle.model.specs.TurnedAway.{turned, unless, _then_, firstAbove, checkH, answered, analysis}
+use Rattle.model.specs.TurnedAway.{turned, unless, firstAbove, checkH, answered, analysis}
 use Rattle.model.proofs.Cases.{test}
 use Rattle.model.proofs.NumberLaws.{least-most}
 use Rattle.wire.specs.Format.{recordSize}
@@ -98,23 +98,21 @@ pub first-within : (s : List Element) → firstAbove s ≤ length s
 unfolding firstAbove
 first-within s = least-most _ (length s)
 
-module _ (large : List Element → Bool) (verdict : List Element → Verdict) (s : List Element) where
-  pub answer-placed : Placed (length s) (analysis Fine (λ place. place) large verdict s)
+module _ (verdict : List Element → Verdict) (s : List Element) where
+  pub answer-placed : Placed (length s) (analysis Fine (λ place. place) verdict s)
   unfolding analysis checkH unless
-  answer-placed = go (leb (H s) mostH) (large s)
+  answer-placed = go (leb (H s) mostH)
     where
-      go : (small big : Bool) → Placed (length s) (answered (cond small Fine (turned 8 (firstAbove s)) then cond (not big) Fine (turned 11 0)) (verdict s))
-      go false big = λ n. first-within s
-      go true false = tt
-      go true true = λ n. absurd (omega arith)
+      go : (small : Bool) → Placed (length s) (answered (cond small Fine (turned 8 (firstAbove s))) (verdict s))
+      go false = λ n. first-within s
+      go true = tt
 
-  pub answer-in-bytes : (b : List ℕ) → inBytes b (analysis Fine (λ place. place) large verdict s) ≡ analysis Fine (kindByte b) large verdict s
+  pub answer-in-bytes : (b : List ℕ) → inBytes b (analysis Fine (λ place. place) verdict s) ≡ analysis Fine (kindByte b) verdict s
   unfolding analysis checkH unless
-  answer-in-bytes b = go (leb (H s) mostH) (large s)
+  answer-in-bytes b = go (leb (H s) mostH)
     where
-      go : (small big : Bool) →
-          inBytes b (answered (cond small Fine (turned 8 (firstAbove s)) then cond (not big) Fine (turned 11 0)) (verdict s)) ≡
-          answered (cond small Fine (turned 8 (kindByte b (firstAbove s))) then cond (not big) Fine (turned 11 0)) (verdict s)
-      go false big = refl
-      go true false = refl
-      go true true = refl
+      go : (small : Bool) →
+          inBytes b (answered (cond small Fine (turned 8 (firstAbove s))) (verdict s)) ≡
+          answered (cond small Fine (turned 8 (kindByte b (firstAbove s)))) (verdict s)
+      go false = refl
+      go true = refl

@@ -1,12 +1,9 @@
 -- THE THREE DEMANDS of whatever the entry points answer, for a set in memory and a set as bytes alike, and of their code. Assumes nothing.
 use Prim.Native.Nat.{ℕ, zero, suc, _+_, _≤_, _<_}
 use mathlib.Core.Path.{_≡_, refl, sym, _∙_}
-use mathlib.Core.Bool.{Bool, true, false, _&&_}
 use mathlib.Core.List.{List}
 use mathlib.Core.Logic.{⊎-elim}
 use native.Mathlib.Omega.{arith}
-use lib.Dec.{leb}
-use borrow.Author.Tests.{leb-true, le-leb, le-ltb}
 use denote.Ref.{now}
 use Rattle.model.specs.declared.elements.Element.{Element}
 use Rattle.model.specs.declared.elements.TaskSet.{TaskSet}
@@ -16,20 +13,17 @@ use Rattle.model.specs.declared.answers.Verdict.the-variants.{Passes}
 use Rattle.model.specs.declared.answers.Answer.{Answer}
 use Rattle.model.specs.declared.answers.Answer.the-variants.{Given}
 use Rattle.model.specs.Number.{howMany}
-use Rattle.model.specs.Elements.{mostH, AllLegal, Same}
+use Rattle.model.specs.Elements.{AllLegal, Same}
 use Rattle.model.specs.Demand.{F, H, D, Q, isTest}
 use Rattle.model.specs.Answers.{values}
-use Rattle.model.specs.ExactTest.{exactLengths, stop, exact}
+use Rattle.model.specs.ExactTest.{exact}
 use Rattle.model.specs.Superposition.{superposition}
-use Rattle.model.specs.TurnedAway.{unless, _then_, checkH, checkK, isLargeAt, meetsLarge, exactIsLarge, superpositionIsLarge, analysis}
+use Rattle.model.specs.TurnedAway.{_then_, checkH, checkK, analysis}
 use Rattle.model.specs.Promises.{Promises}
 use Rattle.model.proofs.Cases.{lt-or-le}
-use Rattle.model.proofs.NumberLaws.{none-below}
-use Rattle.model.proofs.TurnedAwayLaws.{then-fine, unless-fine, k-fine, not-large}
+use Rattle.model.proofs.TurnedAwayLaws.{then-fine, k-fine}
 use Rattle.model.proofs.PromiseLaws.{promises-what-follows}
 use Rattle.theory.proofs.DemandRests.{demand-at-zero}
-use Rattle.theory.specs.Exactness.{Overloaded}
-use Rattle.theory.proofs.SizeLaws.{first-small}
 use Rattle.theory.proofs.OverloadShowsTheFirst.{exact-shows-the-first, superposition-shows-the-first}
 use Rattle.theory.proofs.ExactShowsTheSmallest.{overloaded-exactly-when, shows-the-smallest, otherwise-passes}
 use Rattle.theory.proofs.SuperpositionAnswers.{superposition-answers}
@@ -93,7 +87,7 @@ module _ (s : List Element) (legal : AllLegal s) where
 -- a verdict that is given is the definition's, of elements that are legal
 exact-verdict : (x : Input) (a : Answer) → ExactSaysOf x a → (v : Verdict) → a ≡ Given v → AllLegal (elements x) × (v ≡ exact (elements x))
 exact-verdict x a says v e =
-    let g = verdict-is (checkInput x) (placeIn x) exactIsLarge exact (elements x) v (sym (exact-on x a says) ∙ e) in
+    let g = verdict-is (checkInput x) (placeIn x) exact (elements x) v (sym (exact-on x a says) ∙ e) in
     (input-legal x (g .0) .0, g .2)
 
 superposition-verdict :
@@ -101,7 +95,7 @@ superposition-verdict :
     SuperpositionSaysOf x k a → (v : Verdict) → a ≡ Given v →
     (checkInput x ≡ Fine) × (checkH (placeIn x) (elements x) ≡ Fine) × (1 ≤ k) × (v ≡ superposition k (elements x))
 superposition-verdict x k a says v e =
-    let g = verdict-is (checkK k then checkInput x) (placeIn x) (superpositionIsLarge k) (superposition k) (elements x) v (sym (superposition-on x k a says) ∙ e) in
+    let g = verdict-is (checkK k then checkInput x) (placeIn x) (superposition k) (elements x) v (sym (superposition-on x k a says) ∙ e) in
     let f = then-fine (checkK k) (checkInput x) .0 (g .0) in
     (f .1, g .1, k-fine k (f .0) .0, g .2)
 
@@ -119,42 +113,22 @@ superposition-meets x k a says = record {
 }
 
 -- THE TWO TESTS TOGETHER
-never : (b : Bool) → (b && false) ≡ false
-never true = refl
-never false = refl
-
--- where there is no overrun, the exact test meets no number above 64 bits
-module _ (s : List Element) (legal : AllLegal s) (small : H s ≤ mostH) (load : Q s ≤ H s) (none : (I : ℕ) → D s I ≤ I) where
-  fits-below : (I : ℕ) → I < stop (exactLengths s) → (isTest s I && isLargeAt s I) ≡ false
-  unfolding stop isLargeAt
-  fits-below I l =
-      let low = first-small s legal in
-      rw (not-large I (omega arith), not-large (D s I) (omega (arith, none I))) (never (isTest s I))
-
-  exact-fits : exactIsLarge s ≡ false
-  unfolding exactIsLarge meetsLarge
-  exact-fits = rw (not-large (Q s) (omega arith), le-ltb (H s) (Q s) load, none-below (λ I. isTest s I && isLargeAt s I) (stop (exactLengths s)) fits-below) refl
-
-  not-overloaded : Overloaded s → ⊥
-  not-overloaded o = omega (arith, none (o .0), o .2)
-
 -- THEOREM: if superposition passes an input, with any k, the exact test does
 pub exact-passes-if-superposition-does :
     (x : Input) (k : ℕ) (a b : Answer) →
     SuperpositionSaysOf x k a → ExactSaysOf x b →
     (v : Verdict) → a ≡ Given v → values v .verdict ≡ 0 →
     b ≡ Given (Passes (howMany (isTest (elements x)) (F (elements x) + H (elements x))))
-unfolding analysis checkH unless
+unfolding analysis
 exact-passes-if-superposition-does x k a b p q v e passed =
     let s = elements x in
     let w = superposition-verdict x k a p v e in
     let legal = input-legal x (w .0) .0 in
     let meets = superposition-meets x k a p .verdict v e in
     let none = meets .no-overrun-if-accepted passed in
-    let small : H s ≤ mostH = leb-true (H s) mostH (unless-fine (leb (H s) mostH) 8 _ .0 (w .1)) in
     let load : Q s ≤ H s = ⊎-elim (λ over. absurd (omega (arith, meets .shows-load-above-one over .verdict))) (λ load. load) (lt-or-le (H s) (Q s)) in
     exact-on x b q
-    ∙ rw (w .0, le-leb (H s) mostH small, exact-fits s legal small load none, otherwise-passes s legal load (not-overloaded s legal small load none)) refl
+    ∙ rw (w .0, w .1, otherwise-passes s legal load (λ o. omega (arith, none (o .0), o .2))) refl
 
 -- "Nothing past the count affects any answer"
 module _ (t u : TaskSet) (same : Same t u) (a b : Answer) where

@@ -10,7 +10,7 @@ use Rattle.model.specs.declared.answers.Answer.the-variants.{Refused}
 use Rattle.model.specs.Elements.{places, counted, isLegalSet, setOf}
 use Rattle.model.specs.ExactTest.{exact}
 use Rattle.model.specs.Superposition.{superposition}
-use Rattle.model.specs.TurnedAway.{_then_, checkSet, checkK, exactIsLarge, superpositionIsLarge, exactAnswer, superpositionAnswer}
+use Rattle.model.specs.TurnedAway.{_then_, checkSet, checkK, exactAnswer, superpositionAnswer}
 use Rattle.wire.specs.declared.reading.ReadSet.{ReadSet}
 use Rattle.wire.specs.Reading.{checkRecords, elementsIn, readSet}
 use Rattle.model.proofs.ElementLaws.{legal-set, set-counted}
@@ -25,12 +25,12 @@ use Rattle.analysis.proofs.ByteLaws.{answer-in-bytes}
 module _ (t : TaskSet) where
   pub exact-taken : checkSet t ≡ Fine → exactOf (counted t) ≡ exactAnswer t
   unfolding exactAnswer
-  exact-taken h = fine-before (checkSet t) (λ place. place) exactIsLarge exact (counted t) h
+  exact-taken h = fine-before (checkSet t) (λ place. place) exact (counted t) h
 
   module _ (k : ℕ) where
     pub superposition-taken : (checkK k then checkSet t) ≡ Fine → superpositionOf k (counted t) ≡ superpositionAnswer k t
     unfolding superpositionAnswer
-    superposition-taken h = fine-before (checkK k then checkSet t) (λ place. place) (superpositionIsLarge k) (superposition k) (counted t) h
+    superposition-taken h = fine-before (checkK k then checkSet t) (λ place. place) (superposition k) (counted t) h
 
 -- BYTES: the set that is read where none is refused
 pub record Read (b : List ℕ) (t : TaskSet) : Type 0 where
@@ -65,27 +65,27 @@ module _ {b : List ℕ} {t : TaskSet} (r : Read b t) where
 module _ (b : List ℕ) where
   pub exact-bytes-refused : {r : Refusal} → checkRecords places 0 b ≡ TurnedAway r → Refused r ≡ exactOfBytes b
   unfolding exactOfBytes
-  exact-bytes-refused h = refused-before (checkRecords places 0 b) (kindByte b) exactIsLarge exact (elementsIn places b) h
+  exact-bytes-refused h = refused-before (checkRecords places 0 b) (kindByte b) exact (elementsIn places b) h
 
   pub exact-bytes-taken : checkRecords places 0 b ≡ Fine → inBytes b (exactOf (elementsIn places b)) ≡ exactOfBytes b
   unfolding exactOfBytes
   exact-bytes-taken h =
-      answer-in-bytes exactIsLarge exact (elementsIn places b) b ∙ fine-before (checkRecords places 0 b) (kindByte b) exactIsLarge exact (elementsIn places b) h
+      answer-in-bytes exact (elementsIn places b) b ∙ fine-before (checkRecords places 0 b) (kindByte b) exact (elementsIn places b) h
 
   module _ (k : ℕ) where
     pub superposition-bytes-refused-k : {r : Refusal} → checkK k ≡ TurnedAway r → Refused r ≡ superpositionOfBytes k b
     unfolding superpositionOfBytes
     superposition-bytes-refused-k h =
-        refused-before (checkK k then checkRecords places 0 b) (kindByte b) (superpositionIsLarge k) (superposition k) (elementsIn places b) (rw h)
+        refused-before (checkK k then checkRecords places 0 b) (kindByte b) (superposition k) (elementsIn places b) (rw h)
 
     pub superposition-bytes-refused : {r : Refusal} → checkK k ≡ Fine → checkRecords places 0 b ≡ TurnedAway r → Refused r ≡ superpositionOfBytes k b
     unfolding superpositionOfBytes
     superposition-bytes-refused f h =
-        refused-before (checkK k then checkRecords places 0 b) (kindByte b) (superpositionIsLarge k) (superposition k) (elementsIn places b) (rw f h)
+        refused-before (checkK k then checkRecords places 0 b) (kindByte b) (superposition k) (elementsIn places b) (rw f h)
 
     pub superposition-bytes-taken :
         (checkK k then checkRecords places 0 b) ≡ Fine → inBytes b (superpositionOf k (elementsIn places b)) ≡ superpositionOfBytes k b
     unfolding superpositionOfBytes
     superposition-bytes-taken h =
-        answer-in-bytes (superpositionIsLarge k) (superposition k) (elementsIn places b) b
-        ∙ fine-before (checkK k then checkRecords places 0 b) (kindByte b) (superpositionIsLarge k) (superposition k) (elementsIn places b) h
+        answer-in-bytes (superposition k) (elementsIn places b) b
+        ∙ fine-before (checkK k then checkRecords places 0 b) (kindByte b) (superposition k) (elementsIn places b) h

@@ -1,7 +1,7 @@
 -- DEMAND 1 of the analyses: each ends in one of the ways that document 01 lists, and in no two. Assumes nothing.
 use Prim.Native.Nat.{ℕ, zero, suc, _≤_, _<_}
 use mathlib.Core.Path.{_≡_, refl, ap, sym, _∙_}
-use mathlib.Core.Bool.{Bool, true, false}
+use mathlib.Core.Bool.{true, false}
 use mathlib.Core.List.{List}
 use mathlib.Core.Logic.{⊎-elim}
 use native.Mathlib.Omega.{arith}
@@ -18,20 +18,19 @@ use Rattle.model.specs.Elements.{places, mostH, mostK, AllLegal, within}
 use Rattle.model.specs.Demand.{H}
 use Rattle.model.specs.ExactTest.{exact}
 use Rattle.model.specs.Superposition.{superposition}
-use Rattle.model.specs.TurnedAway.{turned, unless, _then_, checkSet, firstAbove, checkH, checkK, exactIsLarge, superpositionIsLarge, analysis, exactAnswer, superpositionAnswer}
+use Rattle.model.specs.TurnedAway.{turned, unless, _then_, checkSet, firstAbove, checkH, checkK, analysis, exactAnswer, superpositionAnswer}
 use Rattle.model.proofs.Cases.{clash, test, lt-or-le}
 use Rattle.model.proofs.NumberLaws.{least-is, least-at}
 use Rattle.model.proofs.ElementLaws.{within-is}
 use Rattle.model.proofs.TurnedAwayLaws.{set-fine}
 use Rattle.model.proofs.RowLaws.{set-is-turned-away}
-use Rattle.theory.specs.Comparing.{refusedBy}
 use Rattle.theory.proofs.HyperperiodGrows.{hyperperiod-of-a-part}
 use Rattle.theory.proofs.TakenSetsAreLegal.{fine-is-legal}
 use Rattle.wire.specs.Reading.{checkRecords}
 use Rattle.wire.proofs.ReadingLaws.{elements-legal}
 use Rattle.wire.proofs.ReaderIsDecided.{records-fine, fine-are-records, records-turned, turned-are-refused}
 use Rattle.analysis.specs.InBytes.{exactOfBytes, superpositionOfBytes}
-use Rattle.analysis.specs.Demands.{Input, in-memory, as-bytes, elements, placeIn, IsInput, ExactSaysOf, SuperpositionSaysOf, IsRefused, IsTaken, BringsHAbove, Ends, refused-first, refused-by-8, refused-by-11, given, ExactEnds, IsK, SuperpositionEnds, refused-by-9, looked-at}
+use Rattle.analysis.specs.Demands.{Input, in-memory, as-bytes, elements, placeIn, IsInput, ExactSaysOf, SuperpositionSaysOf, IsRefused, IsTaken, BringsHAbove, refusedBy, Ends, refused-first, refused-by-8, given, ExactEnds, IsK, SuperpositionEnds, refused-by-9, looked-at}
 
 -- WHAT IS CHECKED BEFORE 8: count and values, or the records
 abbrev pub checkInput : Input → Check
@@ -88,30 +87,27 @@ module _ (s : List Element) (i : ℕ) (k : BringsHAbove s i) where
   brings-above : AllLegal s → mostH < H s
   brings-above legal = omega (arith, k .above, hyperperiod-of-a-part s legal (suc i))
 
--- WITH A TEST: whether it meets 11, and its verdict
-module _ (x : Input) (large : List Element → Bool) (verdict : List Element → Verdict) where
+-- WITH A TEST: its verdict
+module _ (x : Input) (verdict : List Element → Verdict) where
   abbrev s : List Element
   s = elements x
 
   abbrev the-answer : Answer
-  the-answer = analysis (checkInput x) (placeIn x) large verdict s
+  the-answer = analysis (checkInput x) (placeIn x) verdict s
 
   abbrev Way : Answer → Type 0
-  Way a = Ends x (large s) (verdict s) a
+  Way a = Ends x (verdict s) a
 
   some-way : IsInput x → Way the-answer
   unfolding analysis checkH unless
   some-way i = go (checkInput x) refl
     where
-      go : (c : Check) → checkInput x ≡ c → Way (analysis c (placeIn x) large verdict s)
+      go : (c : Check) → checkInput x ≡ c → Way (analysis c (placeIn x) verdict s)
       go (TurnedAway r) e = refused-first (r .number) (r .place) (turned-is-refused x (r .number) (r .place) i e)
       go Fine e =
           let taken = fine-is-taken x i e in ⊎-elim
           (λ (h : mostH < H s). rw (lt-leb (H s) mostH h) (refused-by-8 (firstAbove s) taken (first-above s h)))
-          (λ (h : H s ≤ mostH). rw (le-leb (H s) mostH h) (⊎-elim
-          (λ l. rw l (refused-by-11 taken h refl))
-          (λ l. rw l (given taken h refl))
-          (test (large s))))
+          (λ (h : H s ≤ mostH). rw (le-leb (H s) mostH h) (given taken h))
           (lt-or-le mostH (H s))
 
   -- each way is the answer's
@@ -121,36 +117,35 @@ module _ (x : Input) (large : List Element → Bool) (verdict : List Element →
   no-other-way a (refused-by-8 i taken k) =
       let fine = taken-is-fine x taken in
       rw (fine, lt-leb (H s) mostH (brings-above s i k (input-legal x fine .0)), first-is s i k) refl
-  no-other-way a (refused-by-11 taken small l) = rw (taken-is-fine x taken, le-leb (H s) mostH small, l) refl
-  no-other-way a (given taken small l) = rw (taken-is-fine x taken, le-leb (H s) mostH small, l) refl
+  no-other-way a (given taken small) = rw (taken-is-fine x taken, le-leb (H s) mostH small) refl
 
 -- THE EXACT TEST
-pub exact-on : (x : Input) (a : Answer) → ExactSaysOf x a → a ≡ analysis (checkInput x) (placeIn x) exactIsLarge exact (elements x)
+pub exact-on : (x : Input) (a : Answer) → ExactSaysOf x a → a ≡ analysis (checkInput x) (placeIn x) exact (elements x)
 unfolding exactAnswer exactOfBytes
 exact-on (in-memory t) a h = h
 exact-on (as-bytes b) a h = h
 
--- THEOREM: it ends with a refusal of the input; with 8, at the first element that brings H above its limit; with 11; or with its verdict
+-- THEOREM: it ends with a refusal of the input; with 8, at the first element that brings H above its limit; or with its verdict
 pub exact-ends : (x : Input) (a : Answer) → ExactSaysOf x a → IsInput x → ExactEnds x a
-exact-ends x a h i = rw (exact-on x a h) (some-way x exactIsLarge exact i)
+exact-ends x a h i = rw (exact-on x a h) (some-way x exact i)
 
 -- THEOREM: in one of these ways only, so each exactly when listed
 pub exact-ends-one-way : (x : Input) (a b : Answer) → ExactEnds x a → ExactEnds x b → a ≡ b
-exact-ends-one-way x a b p q = no-other-way x exactIsLarge exact a p ∙ sym (no-other-way x exactIsLarge exact b q)
+exact-ends-one-way x a b p q = no-other-way x exact a p ∙ sym (no-other-way x exact b q)
 
 -- SUPERPOSITION
 pub superposition-on :
-    (x : Input) (k : ℕ) (a : Answer) → SuperpositionSaysOf x k a → a ≡ analysis (checkK k then checkInput x) (placeIn x) (superpositionIsLarge k) (superposition k) (elements x)
+    (x : Input) (k : ℕ) (a : Answer) → SuperpositionSaysOf x k a → a ≡ analysis (checkK k then checkInput x) (placeIn x) (superposition k) (elements x)
 unfolding superpositionAnswer superpositionOfBytes
 superposition-on (in-memory t) k a h = h
 superposition-on (as-bytes b) k a h = h
 
 module _ (x : Input) (k : ℕ) where
   abbrev after-k : Answer
-  after-k = the-answer x (superpositionIsLarge k) (superposition k)
+  after-k = the-answer x (superposition k)
 
   abbrev with-k : Check → Answer
-  with-k c = analysis (c then checkInput x) (placeIn x) (superpositionIsLarge k) (superposition k) (elements x)
+  with-k c = analysis (c then checkInput x) (placeIn x) (superposition k) (elements x)
 
   k-within : IsK k → within 1 mostK k ≡ true
   unfolding within
@@ -168,7 +163,7 @@ module _ (x : Input) (k : ℕ) where
   pub superposition-ends : (a : Answer) → SuperpositionSaysOf x k a → IsInput x → SuperpositionEnds x k a
   superposition-ends a h i = ⊎-elim
       (λ w. let is = within-is 1 mostK k w in
-      rw (superposition-on x k a h ∙ k-looked-at is) (looked-at after-k is (some-way x (superpositionIsLarge k) (superposition k) i)))
+      rw (superposition-on x k a h ∙ k-looked-at is) (looked-at after-k is (some-way x (superposition k) i)))
       (λ w. let no : IsK k → ⊥ = λ is. clash (k-within is) w in rw (superposition-on x k a h ∙ sym (k-refused no)) (refused-by-9 no))
       (test (within 1 mostK k))
 
@@ -178,4 +173,4 @@ module _ (x : Input) (k : ℕ) where
     where
       only : (c : Answer) → SuperpositionEnds x k c → c ≡ with-k (checkK k)
       only c (refused-by-9 n) = k-refused n
-      only c (looked-at d is w) = no-other-way x (superpositionIsLarge k) (superposition k) c w ∙ sym (k-looked-at is)
+      only c (looked-at d is w) = no-other-way x (superposition k) c w ∙ sym (k-looked-at is)

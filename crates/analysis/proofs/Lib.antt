@@ -1,7 +1,6 @@
 pub mod ByteLaws
 pub mod EntryLaws
 pub mod HowAnAnalysisEnds
-pub mod ElevenIsNeverMet
 pub mod Outcomes
 pub mod Demands
 pub mod BytesAgree

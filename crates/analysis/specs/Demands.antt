@@ -1,7 +1,7 @@
 -- THE THREE DEMANDS as words: what each says of an input and of what an entry point answers. They speak of a set in memory and of a set as bytes alike.
 use Prim.Native.Nat.{ℕ, suc, _+_, _≤_, _<_}
 use mathlib.Core.Path.{_≡_}
-use mathlib.Core.Bool.{Bool, true, false}
+use mathlib.Core.Bool.{true}
 use mathlib.Core.List.{List}
 use mathlib.Core.Logic.{_⊎_, _↔_}
 use lib.ListN.{length, take}
@@ -10,16 +10,14 @@ use Rattle.model.specs.declared.elements.TaskSet.{TaskSet}
 use Rattle.model.specs.declared.answers.Verdict.{Verdict}
 use Rattle.model.specs.declared.answers.Verdict.the-variants.{Passes}
 use Rattle.model.specs.declared.answers.Answer.{Answer}
-use Rattle.model.specs.declared.answers.Answer.the-variants.{Given}
+use Rattle.model.specs.declared.answers.Answer.the-variants.{Refused, Given}
 use Rattle.model.specs.Number.{howMany}
 use Rattle.model.specs.Elements.{places, mostH, mostK, counted, isLegalSet}
 use Rattle.model.specs.Demand.{F, H, D, Q, isTest}
 use Rattle.model.specs.Answers.{values}
 use Rattle.model.specs.ExactTest.{exact}
 use Rattle.model.specs.Superposition.{superposition}
-use Rattle.model.specs.TurnedAway.{exactIsLarge, superpositionIsLarge}
 use Rattle.model.specs.Rows.{IsTurnedAway}
-use Rattle.theory.specs.Comparing.{refusedBy}
 use Rattle.theory.specs.Exactness.{Overloaded, ShowsTheSmallest, ShowsTheFirst}
 use Rattle.theory.specs.Approximation.{budget, NearOverrun, HoldsBack, Accepts}
 use Rattle.wire.specs.Format.{AllBytes}
@@ -76,15 +74,17 @@ pub record BringsHAbove (s : List Element) (i : ℕ) : Type 0 where
   pub above : mostH < H (take (suc i) s)
   pub before : (j : ℕ) → j ≤ i → H (take j s) ≤ mostH
 
--- how an analysis ends, with whether its test meets 11, and the test's verdict: "then 8 [..], then 11"
-pub data Ends (x : Input) (large : Bool) (v : Verdict) : Answer → Type 0 where
-  refused-first : (number place : ℕ) → IsRefused x number place → Ends x large v (refusedBy number place)
-  refused-by-8 : (i : ℕ) → IsTaken x → BringsHAbove (elements x) i → Ends x large v (refusedBy 8 (placeIn x i))
-  refused-by-11 : IsTaken x → H (elements x) ≤ mostH → large ≡ true → Ends x large v (refusedBy 11 0)
-  given : IsTaken x → H (elements x) ≤ mostH → large ≡ false → Ends x large v (Given v)
+abbrev pub refusedBy : ℕ → ℕ → Answer
+refusedBy number place = Refused (record { number = number; place = place })
+
+-- how an analysis ends, with its test's verdict: "then 8", then the verdict
+pub data Ends (x : Input) (v : Verdict) : Answer → Type 0 where
+  refused-first : (number place : ℕ) → IsRefused x number place → Ends x v (refusedBy number place)
+  refused-by-8 : (i : ℕ) → IsTaken x → BringsHAbove (elements x) i → Ends x v (refusedBy 8 (placeIn x i))
+  given : IsTaken x → H (elements x) ≤ mostH → Ends x v (Given v)
 
 abbrev pub ExactEnds : Input → Answer → Type 0
-ExactEnds x a = Ends x (exactIsLarge (elements x)) (exact (elements x)) a
+ExactEnds x a = Ends x (exact (elements x)) a
 
 -- "k: 1 to 255"
 abbrev pub IsK : ℕ → Type 0
@@ -93,7 +93,7 @@ IsK k = (1 ≤ k) × (k ≤ mostK)
 -- "Superposition looks at k first."
 pub data SuperpositionEnds (x : Input) (k : ℕ) : Answer → Type 0 where
   refused-by-9 : (IsK k → ⊥) → SuperpositionEnds x k (refusedBy 9 0)
-  looked-at : (a : Answer) → IsK k → Ends x (superpositionIsLarge k (elements x)) (superposition k (elements x)) a → SuperpositionEnds x k a
+  looked-at : (a : Answer) → IsK k → Ends x (superposition k (elements x)) a → SuperpositionEnds x k a
 
 -- DEMAND 2, of elements s and the verdict that the exact test gives
 pub record MeetsDemand2 (s : List Element) (v : Verdict) : Type 0 where

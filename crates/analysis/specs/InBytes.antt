@@ -1,4 +1,4 @@
--- Document 01, "What is turned away", of an analysis given bytes: 1 to 7 as the reader refuses them, then 8 at a kind byte, then 11.
+-- Document 01, "What is turned away", of an analysis given bytes: 1 to 7 as the reader refuses them, then 8 at a kind byte.
 use Prim.Native.Nat.{ℕ, zero, suc, _+_}
 use mathlib.Core.List.{List}
 use lib.ListN.{drop}
@@ -6,7 +6,7 @@ use Rattle.model.specs.declared.answers.Answer.{Answer}
 use Rattle.model.specs.Elements.{places}
 use Rattle.model.specs.ExactTest.{exact}
 use Rattle.model.specs.Superposition.{superposition}
-use Rattle.model.specs.TurnedAway.{_then_, checkK, exactIsLarge, superpositionIsLarge, analysis}
+use Rattle.model.specs.TurnedAway.{_then_, checkK, analysis}
 use Rattle.wire.specs.Format.{recordSize}
 use Rattle.wire.specs.Reading.{checkRecords, elementsIn}
 
@@ -17,8 +17,8 @@ kindByte b (suc i) = recordSize b + kindByte (drop (recordSize b) b) i
 
 -- "8: kind byte of the first record that brings it there"
 unfoldable pub exactOfBytes : List ℕ → Answer
-exactOfBytes b = analysis (checkRecords places 0 b) (kindByte b) exactIsLarge exact (elementsIn places b)
+exactOfBytes b = analysis (checkRecords places 0 b) (kindByte b) exact (elementsIn places b)
 
--- "Superposition looks at k first. Records are then checked in order [..]. Then 8, then 11."
+-- "Superposition looks at k first. Records are then checked in order [..]. Then 8"
 unfoldable pub superpositionOfBytes : ℕ → List ℕ → Answer
-superpositionOfBytes k b = analysis (checkK k then checkRecords places 0 b) (kindByte b) (superpositionIsLarge k) (superposition k) (elementsIn places b)
+superpositionOfBytes k b = analysis (checkK k then checkRecords places 0 b) (kindByte b) (superposition k) (elementsIn places b)

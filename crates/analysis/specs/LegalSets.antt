@@ -10,15 +10,15 @@ use Rattle.model.specs.declared.answers.Answer.{Answer}
 use Rattle.model.specs.declared.answers.Answer.the-variants.{Refused, Given}
 use Rattle.model.specs.ExactTest.{exact}
 use Rattle.model.specs.Superposition.{superposition}
-use Rattle.model.specs.TurnedAway.{exactIsLarge, superpositionIsLarge, analysis}
+use Rattle.model.specs.TurnedAway.{analysis}
 use Rattle.analysis.specs.InBytes.{kindByte}
 
--- 8 at the table place, then 11, then the verdict
+-- 8 at the table place, then the verdict
 abbrev pub exactOf : List Element → Answer
-exactOf s = analysis Fine (λ place. place) exactIsLarge exact s
+exactOf s = analysis Fine (λ place. place) exact s
 
 abbrev pub superpositionOf : ℕ → List Element → Answer
-superpositionOf k s = analysis Fine (λ place. place) (superpositionIsLarge k) (superposition k) s
+superpositionOf k s = analysis Fine (λ place. place) (superposition k) s
 
 -- 8 at its kind byte
 abbrev pub inBytes : List ℕ → Answer → Answer

@@ -9,11 +9,10 @@ use lib.ListN.{length, getD, replicate}
 use Rattle.model.specs.declared.elements.Element.{Element}
 use Rattle.model.specs.declared.elements.TaskSet.{TaskSet}
 use Rattle.model.specs.declared.answers.Verdict.the-variants.{Passes, Overrun}
-use Rattle.model.specs.declared.answers.Answer.the-variants.{Given}
 use Rattle.model.specs.Number.{howMany}
 use Rattle.model.specs.Elements.{filler, counted}
 use Rattle.model.specs.Demand.{D, isTestOf, isTest}
-use Rattle.model.specs.TurnedAway.{isLargeAt}
+use Rattle.model.specs.ExactTest.{comparing}
 use Rattle.model.proofs.Cases.{test, clash}
 use Rattle.model.proofs.OverLaws.{some-at}
 use Rattle.model.proofs.ElementLaws.{counted-long, counted-at}
@@ -23,13 +22,13 @@ use Rattle.theory.proofs.TestLengthsAre.{test-lengths-are, zero-is-no-test-leng
 use Rattle.theory.proofs.DemandRests.{demand-at-zero, demand-changes-only-at-test-lengths}
 use Rattle.exact_test.specs.declared.segments.Swept.{Swept}
 use Rattle.exact_test.specs.declared.segments.Swept.the-variants.{Clean}
-use Rattle.theory.specs.Comparing.{compared, lengthsBelow}
+use Rattle.theory.specs.TestLengths.{lengthsBelow}
 use Rattle.theory.specs.Places.{elementAt}
 use Rattle.places.specs.Columns.{mostBound}
 use Rattle.places.proofs.ColumnLaws.{Laid}
 use Rattle.exact_test.specs.Segments.{isDate, ticks, IsWord, Marked, Addable, Full, sweepOf, total, Zero}
 use Rattle.theory.proofs.PlaceLaws.{LegalPlaces}
-use Rattle.theory.proofs.ComparingLaws.{Upto, upto-zero, upto-gap, compared-clear}
+use Rattle.theory.proofs.ExactTestLaws.{Upto, upto-zero, upto-gap, comparing-holds}
 use Rattle.exact_test.proofs.DateLaws.{date-before}
 use Rattle.exact_test.proofs.SegmentsMeetDemand.{none-zero, none-marked, laid-fit, laid-dates, due-is, total-full}
 use Rattle.exact_test.proofs.SweepMeetsTest.{Met, meets}
@@ -47,7 +46,7 @@ pub record Stage (t : TaskSet) (bound : ℕ) (next step cost due marks : List �
   pub sum : dem ≡ D (counted t) (min base bound - 1)
   pub small : dem < base
   pub counts : count ≡ howMany (isTest (counted t)) (min base bound)
-  pub compares : Upto (lengthsBelow (counted t) bound) (isLargeAt (counted t)) (min base bound)
+  pub compares : Upto (lengthsBelow (counted t) bound) (min base bound)
 
 pub start :
     (t : TaskSet) (bound : ℕ) (next step cost : List ℕ) → LegalPlaces t → bound ≤ mostBound → Laid t next step cost →
@@ -68,8 +67,8 @@ start t bound next step cost set low laid =
           let e : 0 + min 1 bound ≡ min 1 bound = omega arith in
           sym (rw e at (howMany-gap (isTest (counted t)) 0 (min 1 bound) (λ J a b. quiet J (omega arith))) ∙ howMany-zero (isTest (counted t)));
       compares =
-          upto-gap (lengthsBelow (counted t) bound) (isLargeAt (counted t)) 0 (min 1 bound)
-          (upto-zero (lengthsBelow (counted t) bound) (isLargeAt (counted t))) (λ J a b. quiet J (omega arith));
+          upto-gap (lengthsBelow (counted t) bound) 0 (min 1 bound)
+          (upto-zero (lengthsBelow (counted t) bound)) (λ J a b. quiet J (omega arith));
     }
   where
     quiet : (J : ℕ) → J ≡ 0 → isTest (counted t) J ≡ false
@@ -82,10 +81,10 @@ module _ (t : TaskSet) (bound : ℕ) (next step cost due marks : List ℕ) (base
   abbrev s : List Element
   s = counted t
 
-  pub end : bound ≤ base → Given (Passes count) ≡ compared s Overrun (lengthsBelow s bound) (isLargeAt s)
+  pub end : bound ≤ base → Passes count ≡ comparing s Overrun (lengthsBelow s bound)
   end h =
       let e : min base bound ≡ bound = omega arith in
-      sym (compared-clear s Overrun (lengthsBelow s bound) (isLargeAt s) bound (omega arith) (rw e at (k .compares)) ∙ ap (λ n. Given (Passes n)) (sym (rw e at (k .counts))))
+      sym (comparing-holds s Overrun (lengthsBelow s bound) (rw e at (k .compares)) ∙ ap Passes (sym (rw e at (k .counts))))
 
   -- a segment that is filled
   module _
@@ -97,8 +96,10 @@ module _ (t : TaskSet) (bound : ℕ) (next step cost due marks : List ℕ) (base
     due-here : (y : ℕ) → y < len → getD due′ y 0 ≡ dueAt s (base + y)
     due-here y l = full .each y l ∙ due-is t next step cost (base + y) enough (λ i h. k .dates i h (base + y) (omega arith) (omega arith)) (k .costs)
 
-    pub sweep-fits : IsWord (count + total due′)
-    sweep-fits = omega (arith, total-full (k .fit) full long, k .counts, howMany-most (isTest s) (min base bound), k .low)
+    pub sweep-fits : IsWord (dem + total due′) × IsWord (count + total due′)
+    sweep-fits =
+        let most = total-full (k .fit) full long in
+        (omega (arith, k .small, k .low), omega (arith, k .counts, howMany-most (isTest s) (min base bound), k .low))
 
     -- what its sweep tells
     pub swept : (x r : Swept) → x ≡ sweepOf due′ base dem count → x ≡ r → Met s (k .set .all) bound (k .low) (base + len - 1) r
@@ -148,6 +149,6 @@ module _ (t : TaskSet) (bound : ℕ) (next step cost due marks : List ℕ) (base
               let gap = howMany-gap (isTest s) (base + len) more (λ J a b. quiet J a (omega arith) (omega arith)) in
               m .1 ∙ ap (howMany (isTest s)) after ∙ sym (rw till at gap);
           compares =
-              upto-gap (lengthsBelow s bound) (isLargeAt s) (base + len) (min low bound) (rw after at (m .0))
+              upto-gap (lengthsBelow s bound) (base + len) (min low bound) (rw after at (m .0))
               (λ J a b. quiet J a (omega arith) (omega arith));
         }

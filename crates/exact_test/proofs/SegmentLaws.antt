@@ -9,14 +9,9 @@ use lib.Dec.{ltb}
 use lib.ListN.{length, getD, set}
 use borrow.Author.Tests.{lt-ltb, le-ltb}
 use Rattle.model.specs.declared.answers.Verdict.the-variants.{Overrun}
-use Rattle.model.specs.TurnedAway.{isLarge}
-use Rattle.model.proofs.TurnedAwayLaws.{is-large, not-large}
-use Rattle.places.specs.declared.comparing.Sum.the-variants.{Fits, TooLarge as large}
-use Rattle.exact_test.specs.declared.segments.Swept.the-variants.{TooLarge, Late, Clean}
-use Rattle.places.specs.Sums.{sumOf}
+use Rattle.exact_test.specs.declared.segments.Swept.the-variants.{Late, Clean}
 use Rattle.theory.specs.Places.{sumTo}
 use Rattle.exact_test.specs.Segments.{isDate, part, dueOf, sweepOf, total, Zero}
-use Rattle.places.proofs.SumLaws.{sum-tells}
 use Rattle.exact_test.proofs.DateLaws.{date-self, date-before}
 
 -- WHAT A PLACE ADDS
@@ -89,8 +84,7 @@ sweep-first :
     (xs : List ℕ) (j I d c : ℕ) →
     IsFirst xs j →
     sweepOf xs I d c
-    ≡ cond (isLarge (d + getD xs j 0)) TooLarge
-    (cond (ltb (I + j) (d + getD xs j 0)) (Late (Overrun (I + j) (d + getD xs j 0) (c + 1))) (sweepOf (set xs j 0) I (d + getD xs j 0) (c + 1)))
+    ≡ cond (ltb (I + j) (d + getD xs j 0)) (Late (Overrun (I + j) (d + getD xs j 0) (c + 1))) (sweepOf (set xs j 0) I (d + getD xs j 0) (c + 1))
 unfolding sweepOf
 sweep-first [] j I d c h = absurd (omega (arith, h .within))
 sweep-first (zero ∷ xs) zero I d c h = absurd (omega (arith, h .some))
@@ -101,16 +95,8 @@ sweep-first (zero ∷ xs) (suc j) I d c h =
 sweep-first (suc a ∷ xs) (suc j) I d c h = absurd (omega (arith, h .before 0 (omega arith)))
 
 module _ (xs : List ℕ) (j I d c : ℕ) (h : IsFirst xs j) where
-  pub sweep-large : large ≡ sumOf d (getD xs j 0) → sweepOf xs I d c ≡ TooLarge
-  sweep-large e = sweep-first xs j I d c h ∙ rw (is-large (d + getD xs j 0) (sum-tells d (getD xs j 0) e))
+  pub sweep-late : I + j < d + getD xs j 0 → sweepOf xs I d c ≡ Late (Overrun (I + j) (d + getD xs j 0) (c + 1))
+  sweep-late l = sweep-first xs j I d c h ∙ rw (lt-ltb (I + j) (d + getD xs j 0) l)
 
-  module _ (sum : ℕ) (e : Fits sum ≡ sumOf d (getD xs j 0)) where
-    pub sweep-late : I + j < sum → sweepOf xs I d c ≡ Late (Overrun (I + j) sum (c + 1))
-    sweep-late l =
-        let t = sum-tells d (getD xs j 0) e in
-        rw (t .0) (sweep-first xs j I d c h ∙ rw (not-large (d + getD xs j 0) (t .1), lt-ltb (I + j) (d + getD xs j 0) (omega arith)))
-
-    pub sweep-next : sum ≤ I + j → sweepOf xs I d c ≡ sweepOf (set xs j 0) I sum (c + 1)
-    sweep-next l =
-        let t = sum-tells d (getD xs j 0) e in
-        rw (t .0) (sweep-first xs j I d c h ∙ rw (not-large (d + getD xs j 0) (t .1), le-ltb (I + j) (d + getD xs j 0) (omega arith)))
+  pub sweep-next : d + getD xs j 0 ≤ I + j → sweepOf xs I d c ≡ sweepOf (set xs j 0) I (d + getD xs j 0) (c + 1)
+  sweep-next l = sweep-first xs j I d c h ∙ rw (le-ltb (I + j) (d + getD xs j 0) l)

@@ -9,46 +9,38 @@ use lib.ListN.{length, getD}
 use borrow.Author.Tests.{lt-ltb, le-ltb}
 use Rattle.model.specs.declared.elements.Element.{Element}
 use Rattle.model.specs.declared.answers.Verdict.the-variants.{Overrun}
-use Rattle.model.specs.declared.answers.Answer.the-variants.{Given}
 use Rattle.model.specs.Number.{howMany}
 use Rattle.model.specs.Elements.{AllLegal}
 use Rattle.model.specs.Demand.{D, isTest}
-use Rattle.model.specs.TurnedAway.{isLarge, isLargeAt}
+use Rattle.model.specs.ExactTest.{comparing}
 use Rattle.model.proofs.Cases.{lt-or-le}
 use Rattle.model.proofs.NumberLaws.{howMany-more}
-use Rattle.model.proofs.TurnedAwayLaws.{is-large, not-large}
 use Rattle.theory.specs.Growth.{dueAt}
-use Rattle.theory.proofs.ExactTestLaws.{is-overrun, not-overrun}
+use Rattle.theory.proofs.ExactTestLaws.{is-overrun, not-overrun, Upto, upto-gap, upto-more, comparing-fails}
 use Rattle.theory.proofs.DemandGrows.{demand-grows}
 use Rattle.exact_test.specs.declared.segments.Swept.{Swept}
-use Rattle.exact_test.specs.declared.segments.Swept.the-variants.{TooLarge, Late, Clean}
-use Rattle.theory.specs.Comparing.{refusedBy, compared, lengthsBelow}
+use Rattle.exact_test.specs.declared.segments.Swept.the-variants.{Late, Clean}
+use Rattle.theory.specs.TestLengths.{lengthsBelow}
 use Rattle.places.specs.Columns.{mostBound}
 use Rattle.exact_test.specs.Segments.{sweepOf}
-use Rattle.theory.proofs.ComparingLaws.{Upto, upto-gap, upto-more, compared-large, compared-failing}
 use Rattle.exact_test.proofs.SegmentLaws.{sweep-clean}
 use Rattle.exact_test.proofs.SegmentsMeetDemand.{test-due}
 
 module _ (s : List Element) (legal : AllLegal s) (bound : ℕ) (b : bound ≤ mostBound) where
   abbrev pub Compares : ℕ → Type 0
-  Compares n = Upto (lengthsBelow s bound) (isLargeAt s) n
+  Compares n = Upto (lengthsBelow s bound) n
 
   -- what a sweep up to the length e tells
   abbrev pub Met : ℕ → Swept → Type 0
-  Met e TooLarge = compared s Overrun (lengthsBelow s bound) (isLargeAt s) ≡ refusedBy 11 0
-  Met e (Late v) = compared s Overrun (lengthsBelow s bound) (isLargeAt s) ≡ Given v
+  Met e (Late v) = comparing s Overrun (lengthsBelow s bound) ≡ v
   Met e (Clean d n) = Compares (suc e) × (n ≡ howMany (isTest s) (suc e)) × (d ≡ D s e) × (d ≤ e)
-
-  large-at : (I : ℕ) → I < bound → isLargeAt s I ≡ isLarge (D s I)
-  unfolding isLargeAt
-  large-at I l = rw (not-large I (omega arith))
 
   -- one length, with a cost due there or with none
   module _ (z d c : ℕ) (l : suc z < bound) (u : Compares (suc z)) (n : c ≡ howMany (isTest s) (suc z)) (q : d ≡ D s z) (o : d ≤ z) where
     quiet : dueAt s (suc z) ≡ 0 → Compares (suc (suc z)) × (c ≡ howMany (isTest s) (suc (suc z))) × (d ≡ D s (suc z))
     quiet t =
         let none : isTest s (suc z) ≡ false = test-due s (suc z) legal ∙ rw t in (
-          upto-gap (lengthsBelow s bound) (isLargeAt s) (suc z) (suc (suc z)) u (λ J a h. let e : J ≡ suc z = omega arith in rw e none),
+          upto-gap (lengthsBelow s bound) (suc z) (suc (suc z)) u (λ J a h. let e : J ≡ suc z = omega arith in rw e none),
           n ∙ sym (howMany-more (isTest s) (suc z) ∙ rw none (omega arith)),
           omega (arith, demand-grows s z legal),
         )
@@ -63,20 +55,14 @@ module _ (s : List Element) (legal : AllLegal s) (bound : ℕ) (b : bound ≤ mo
       counts : c + 1 ≡ howMany (isTest s) (suc (suc z))
       counts = ap (λ x. x + 1) n ∙ sym (howMany-more (isTest s) (suc z) ∙ rw visit)
 
-      too-large : 18446744073709551615 < d + suc a → compared s Overrun (lengthsBelow s bound) (isLargeAt s) ≡ refusedBy 11 0
-      too-large h =
-          compared-large s Overrun (lengthsBelow s bound) (isLargeAt s) (suc z) l u visit (large-at (suc z) l ∙ is-large (D s (suc z)) (omega (arith, grown)))
-
-      fits : d + suc a ≤ 18446744073709551615 → isLargeAt s (suc z) ≡ false
-      fits h = large-at (suc z) l ∙ not-large (D s (suc z)) (omega (arith, grown))
-
-      late : d + suc a ≤ 18446744073709551615 → suc z < d + suc a → compared s Overrun (lengthsBelow s bound) (isLargeAt s) ≡ Given (Overrun (suc z) (d + suc a) (c + 1))
-      late h r =
-          compared-failing s Overrun (lengthsBelow s bound) (isLargeAt s) (suc z) l u visit (fits h) (is-overrun s (suc z) (omega (arith, grown)))
+      late : suc z < d + suc a → comparing s Overrun (lengthsBelow s bound) ≡ Overrun (suc z) (d + suc a) (c + 1)
+      late r =
+          comparing-fails s Overrun (lengthsBelow s bound) (suc z)
+          (record { below = l; visit = visit; failure = is-overrun s (suc z) (omega (arith, grown)); before = u })
           ∙ rw (grown, counts)
 
-      holds : d + suc a ≤ 18446744073709551615 → d + suc a ≤ suc z → Compares (suc (suc z))
-      holds h r = upto-more (lengthsBelow s bound) (isLargeAt s) (suc z) u (not-overrun s (suc z) (omega (arith, grown))) (fits h)
+      holds : d + suc a ≤ suc z → Compares (suc (suc z))
+      holds r = upto-more (lengthsBelow s bound) (suc z) u (not-overrun s (suc z) (omega (arith, grown)))
 
   -- THE SWEEP of the entries xs, the first of them at the length I after z, of which len are costs due
   pub meets :
@@ -100,15 +86,10 @@ module _ (s : List Element) (legal : AllLegal s) (bound : ℕ) (b : bound ≤ mo
       let due : dueAt s (suc z) ≡ suc a = sym (rw here at (t 0 (omega arith))) in
       let below : suc z < bound = omega arith in
       ⊎-elim
-      (λ (h : 18446744073709551615 < d + suc a). rw (is-large (d + suc a) h) (too-large z d c below u n q o a due h))
-      (λ (h : d + suc a ≤ 18446744073709551615).
-      rw (not-large (d + suc a) h)
-      (⊎-elim
-      (λ (g : I < d + suc a). rw (lt-ltb I (d + suc a) g, i) (late z d c below u n q o a due h (omega arith)))
+      (λ (g : I < d + suc a). rw (lt-ltb I (d + suc a) g, i) (late z d c below u n q o a due (omega arith)))
       (λ (g : d + suc a ≤ I). rw (le-ltb I (d + suc a) g)
       (meets e xs (I + 1) (suc z) len (d + suc a) (c + 1) (omega arith) (omega arith) l (omega arith)
       (λ y j. let v : z + suc y ≡ suc z + y = omega arith in rw v at (t (suc y) (omega arith)))
       (λ y j. r (suc y) (omega arith))
-      (holds z d c below u n q o a due h (omega arith)) (counts z d c below u n q o a due) (grown z d c below u n q o a due) (omega arith)))
-      (lt-or-le I (d + suc a))))
-      (lt-or-le 18446744073709551615 (d + suc a))
+      (holds z d c below u n q o a due (omega arith)) (counts z d c below u n q o a due) (grown z d c below u n q o a due) (omega arith)))
+      (lt-or-le I (d + suc a))

@@ -9,12 +9,10 @@ use lib.Count.{trailingZeros}
 use lib.ListN.{length, getD, set, length-set, List·getD-eq-default}
 use lib.Seq.{getD-set-same, getD-set-other}
 use Rattle.model.specs.declared.answers.Verdict.the-variants.{Overrun}
-use Rattle.places.specs.declared.comparing.Sum.the-variants.{Fits, TooLarge as large}
-use Rattle.exact_test.specs.declared.segments.Swept.the-variants.{TooLarge, Late, Clean}
-use Rattle.places.specs.Sums.{sumOf}
+use Rattle.exact_test.specs.declared.segments.Swept.the-variants.{Late, Clean}
 use Rattle.exact_test.specs.Segments.{ticks, IsWord, bit, sign, Marked, sweepOf, total, Zero}
 use Rattle.exact_test.proofs.BitLaws.{bit-zero, zeros-below, zeros-lt, zeros-at, cleared, clear-keep, clear-at, clear-lt, some-sign, none-sign}
-use Rattle.exact_test.proofs.SegmentLaws.{IsFirst, total-taken, sweep-clean, sweep-large, sweep-late, sweep-next}
+use Rattle.exact_test.proofs.SegmentLaws.{IsFirst, total-taken, sweep-clean, sweep-late, sweep-next}
 
 -- the lowest bit of w
 abbrev pub lowest : ℕ → ℕ
@@ -30,6 +28,7 @@ never n h = elim (decLt 0 n) [ yes p ↦ absurd (h p) | no p ↦ omega arith ]
 -- from the entries due₀ with d₀ and c₀ to what is left of them with d and c
 pub record Run (due₀ due : List ℕ) (base d₀ c₀ d c : ℕ) : Type 0 where
   pub same : sweepOf due₀ base d₀ c₀ ≡ sweepOf due base d c
+  pub demand : IsWord (d + total due)
   pub count : IsWord (c + total due)
 
 -- in the word k, of whose marks w are left
@@ -155,9 +154,9 @@ pub start :
     {due marks : List ℕ} {base d c seen : ℕ} →
     Marked due marks seen →
     IsWord seen →
-    IsWord (c + total due) →
+    IsWord (d + total due) × IsWord (c + total due) →
     Words due due marks base d c d c seen
-start m f t = record { marked = m; fits = f; run = record { same = refl; count = t } }
+start m f t = record { marked = m; fits = f; run = record { same = refl; demand = t .0; count = t .1 } }
 
 module _ {due₀ due marks : List ℕ} {base d₀ c₀ d c words : ℕ} (v : Words due₀ due marks base d₀ c₀ d c words) where
   module _ (p : words ≡ 0 → ⊥) where
@@ -171,7 +170,7 @@ module _ {due₀ due marks : List ℕ} {base d₀ c₀ d c words : ℕ} (v : Wor
     start-word =
         record {
           word = open-word (v .marked) (pos-of-ne-zero p) (v .fits);
-          run = record { same = refl; count = v .run .count };
+          run = record { same = refl; demand = v .run .demand; count = v .run .count };
         }
 
   pub end-word :
@@ -183,7 +182,7 @@ module _ {due₀ due marks : List ℕ} {base d₀ c₀ d c words : ℕ} (v : Wor
       record {
         marked = close-word (m .word) h;
         fits = m .word .few;
-        run = record { same = v .run .same ∙ m .run .same; count = m .run .count };
+        run = record { same = v .run .same ∙ m .run .same; demand = m .run .demand; count = m .run .count };
       }
 
   pub end : words ≡ 0 → (Clean d c ≡ sweepOf due₀ base d₀ c₀) × (Zero due × Marked due marks 0)
@@ -202,25 +201,30 @@ module _ {due₀ due marks : List ℕ} {base d₀ c₀ d c words k w : ℕ} (v :
   pub fewer-marks : cleared w < w
   fewer-marks = clear-lt w (pos-of-ne-zero p)
 
+  -- the demand with what is due there, and what is left
+  demand-next : IsWord (d + getD due (entryOf k w) 0 + total (set due (entryOf k w) 0))
+  demand-next = omega (arith, v .run .demand, total-taken due (entryOf k w) (first .within))
+
   count-next : IsWord (c + 1 + total (set due (entryOf k w) 0))
   count-next = omega (arith, v .run .count, first .some, total-taken due (entryOf k w) (first .within))
 
-  pub count-fits : IsWord (c + 1)
-  count-fits = omega (arith, count-next)
+  pub sums-fit : IsWord (d + getD due (entryOf k w) 0) × IsWord (c + 1)
+  sums-fit = (omega (arith, demand-next), omega (arith, count-next))
 
-  pub found-large : large ≡ sumOf d (getD due (entryOf k w) 0) → TooLarge ≡ sweepOf due₀ base d₀ c₀
-  found-large e = sym (v .run .same ∙ sweep-large due (entryOf k w) base d c first e)
+  pub found-late :
+      base + entryOf k w < d + getD due (entryOf k w) 0 →
+      Late (Overrun (base + entryOf k w) (d + getD due (entryOf k w) 0) (c + 1)) ≡ sweepOf due₀ base d₀ c₀
+  found-late l = sym (v .run .same ∙ sweep-late due (entryOf k w) base d c first l)
 
-  module _ {sum : ℕ} (e : Fits sum ≡ sumOf d (getD due (entryOf k w) 0)) where
-    pub found-late : base + entryOf k w < sum → Late (Overrun (base + entryOf k w) sum (c + 1)) ≡ sweepOf due₀ base d₀ c₀
-    found-late l = sym (v .run .same ∙ sweep-late due (entryOf k w) base d c first sum e l)
-
-    pub next : sum ≤ base + entryOf k w → Marks due₀ (set due (entryOf k w) 0) marks base d₀ c₀ sum (c + 1) words k (cleared w)
-    next l =
-        record {
-          word = next-word (v .word) (pos-of-ne-zero p);
-          run = record {
-            same = v .run .same ∙ sweep-next due (entryOf k w) base d c first sum e l;
-            count = count-next;
-          };
-        }
+  pub next :
+      d + getD due (entryOf k w) 0 ≤ base + entryOf k w →
+      Marks due₀ (set due (entryOf k w) 0) marks base d₀ c₀ (d + getD due (entryOf k w) 0) (c + 1) words k (cleared w)
+  next l =
+      record {
+        word = next-word (v .word) (pos-of-ne-zero p);
+        run = record {
+          same = v .run .same ∙ sweep-next due (entryOf k w) base d c first l;
+          demand = demand-next;
+          count = count-next;
+        };
+      }

@@ -7,9 +7,8 @@ use lib.Dec.{leb, ltb, eqb}
 use lib.ListN.{length, getD}
 use Rattle.model.specs.declared.answers.Verdict.the-variants.{Overrun}
 use Rattle.model.specs.Elements.{mostCost, places}
-use Rattle.model.specs.TurnedAway.{isLarge}
 use Rattle.exact_test.specs.declared.segments.Swept.{Swept}
-use Rattle.exact_test.specs.declared.segments.Swept.the-variants.{TooLarge, Late, Clean}
+use Rattle.exact_test.specs.declared.segments.Swept.the-variants.{Late, Clean}
 use Rattle.theory.specs.Places.{sumTo}
 use Rattle.places.specs.Columns.{mostBound}
 
@@ -88,8 +87,7 @@ sweepOf [] I d c = Clean d c
 sweepOf (zero ∷ xs) I d c = sweepOf xs (I + 1) d c
 sweepOf (suc a ∷ xs) I d c =
     let more = sweepOf xs (I + 1) (d + suc a) (c + 1) in
-    let here = cond (ltb I (d + suc a)) (Late (Overrun I (d + suc a) (c + 1))) more in
-    cond (isLarge (d + suc a)) TooLarge here
+    cond (ltb I (d + suc a)) (Late (Overrun I (d + suc a) (c + 1))) more
 
 -- the sum of the entries
 unfoldable pub total : List ℕ → ℕ
@@ -102,6 +100,5 @@ Zero xs = (y : ℕ) → getD xs y 0 ≡ 0
 
 -- a clean sweep leaves nothing
 abbrev pub Left : Swept → List ℕ → List ℕ → Type 0
-Left TooLarge due marks = Unit {0}
 Left (Late v) due marks = Unit {0}
 Left (Clean d c) due marks = Zero due × Marked due marks 0

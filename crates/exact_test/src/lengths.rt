@@ -3,9 +3,9 @@ ghost use Prim.Native.Nat.{_-_, _≤_, min};
 ghost use mathlib.Core.Path.{_≡_};
 ghost use mathlib.Core.Bool.{true};
 ghost use Rattle.model.specs.Elements.{counted, isLegalSet};
-ghost use Rattle.model.specs.TurnedAway.{isLargeAt};
+ghost use Rattle.model.specs.ExactTest.{comparing};
 ghost use Rattle.model.specs.declared.answers.Verdict.the-variants.{Overrun};
-ghost use Rattle.theory.specs.Comparing.{compared, lengthsBelow};
+ghost use Rattle.theory.specs.TestLengths.{lengthsBelow};
 ghost use Rattle.places.specs.Columns.{mostBound};
 ghost use Rattle.exact_test.specs.Segments.{ticks};
 use crate::segments::Swept;
@@ -13,8 +13,6 @@ use crate::segments::TICKS;
 use crate::segments::WORDS;
 use crate::segments::fill;
 use crate::segments::sweep;
-use model::Answer;
-use model::Refusal;
 use model::TaskSet;
 use model::Verdict;
 use model::elements::PLACES;
@@ -34,10 +32,10 @@ fn segment(base: u64, bound: u64) -> u64
 }
 
 // The test lengths below the bound. The costs due are added up in a segment of lengths, and swept in rising order.
-pub(crate) fn compare_lengths(set: TaskSet, bound: u64) -> Answer
+pub(crate) fn compare_lengths(set: TaskSet, bound: u64) -> Verdict
     requires { ⌜ isLegalSet set ≡ true ⌝ }
     requires { ⌜ bound ≤ mostBound ⌝ }
-    ensures { λ r. ⌜ r ≡ compared (counted set) Overrun (lengthsBelow (counted set) bound) (isLargeAt (counted set)) ⌝ }
+    ensures { λ r. ⌜ r ≡ comparing (counted set) Overrun (lengthsBelow (counted set) bound) ⌝ }
 {
     let mut next = [NONE_LEFT; PLACES];
     let mut step = [1u64; PLACES];
@@ -61,14 +59,8 @@ pub(crate) fn compare_lengths(set: TaskSet, bound: u64) -> Answer
             len,
         );
         match sweep(&mut due, &mut marks, filled.seen, base, demand, count) {
-            Swept::TooLarge => {
-                return Answer::Refused(Refusal {
-                    number: 11,
-                    place: 0,
-                });
-            }
             Swept::Late(v) => {
-                return Answer::Given(v);
+                return v;
             }
             Swept::Clean {
                 demand: d,
@@ -80,5 +72,5 @@ pub(crate) fn compare_lengths(set: TaskSet, bound: u64) -> Answer
             }
         }
     }
-    Answer::Given(Verdict::Passes { count })
+    Verdict::Passes { count }
 }

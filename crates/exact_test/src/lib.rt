@@ -10,7 +10,7 @@ use load::load_of;
 use model::Answer;
 use model::TaskSet;
 
-// A refusal by 3 to 8, or 11, or the verdict: the test lengths below F + H are compared.
+// A refusal by 3 to 8, or the verdict: the test lengths below F + H are compared.
 pub fn exact(set: TaskSet) -> Answer
     ensures { λ r. ⌜ ExactSays set r ⌝ }
 {
@@ -21,6 +21,6 @@ pub fn exact(set: TaskSet) -> Answer
             first,
             hyperperiod,
             load: _,
-        } => compare_lengths(set, first + hyperperiod),
+        } => Answer::Given(compare_lengths(set, first + hyperperiod)),
     }
 }

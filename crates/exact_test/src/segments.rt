@@ -8,8 +8,6 @@ ghost use Rattle.exact_test.specs.Segments.{ticks, mostNext, IsWord, Mar
 use model::Verdict;
 use model::elements::PLACES;
 use places::columns::NONE_LEFT;
-use places::comparing::Sum;
-use places::comparing::add;
 
 // The ticks of a segment, and the words that have a bit for each.
 pub(crate) const TICKS: usize = 4096;
@@ -29,7 +27,6 @@ pub(crate) struct Filled {
 }
 
 pub(crate) enum Swept {
-    TooLarge,
     Late(Verdict),
     Clean { demand: u64, count: u64 },
 }
@@ -117,7 +114,8 @@ pub(crate) fn sweep(
     count: u64,
 ) -> Swept
     requires { ⌜ Marked (now due) (now marks) seen ⌝ }
-    requires { ⌜ IsWord (count + total (now due)) × (base ≤ mostNext) ⌝ }
+    requires { ⌜ IsWord (demand + total (now due)) × IsWord (count + total (now due)) ⌝ }
+    requires { ⌜ base ≤ mostNext ⌝ }
     ensures { λ r. ⌜ r ≡ sweepOf (now (due .entry)) base demand count ⌝ }
     ensures { λ r. ⌜ Left r (now (due .exit)) (now (marks .exit)) ⌝ }
 {
@@ -131,10 +129,7 @@ pub(crate) fn sweep(
         marks[k] = 0;
         while w != 0 {
             let j = k * 64 + (u64::trailing_zeros(w) as usize);
-            let Sum::Fits(sum) = add(d, due[j]) else {
-                return Swept::TooLarge;
-            };
-            d = sum;
+            d += due[j];
             due[j] = 0;
             c += 1;
             let at = base + (j as u64);

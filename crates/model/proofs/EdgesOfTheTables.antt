@@ -2,19 +2,15 @@
 -- with their places. All computed, S12's periods among them. Assumes nothing.
 use Prim.Native.Nat.{ℕ}
 use mathlib.Core.Path.{_≡_, refl}
-use mathlib.Core.Bool.{true, false}
 use mathlib.Core.List.{[], _∷_}
 use lib.ListN.{replicate}
 use Rattle.model.specs.declared.elements.TaskSet.{TaskSet}
 use Rattle.model.specs.declared.answers.Check.the-variants.{Fine}
-use Rattle.model.specs.Number.{gcdIn, gcd, lcm, least, someBelow}
-use Rattle.model.specs.Over.{sumOver, largestOver, someOver}
+use Rattle.model.specs.Number.{gcdIn, gcd, lcm, least}
 use Rattle.model.specs.Elements.{within, isPeriod, isOffset, isDeadline, isCost, filler}
-use Rattle.model.specs.Demand.{F, H, demandOf, D, loadIn, isTestOf, isTest}
+use Rattle.model.specs.Demand.{H}
 use Rattle.model.specs.Answers.{told, refused, numbers}
-use Rattle.model.specs.ExactTest.{isOverrun, multiple, overloadAt, failing, stop, exact}
-use Rattle.model.specs.Superposition.{scaledBy, scaledIn, isAbove, isVisited}
-use Rattle.model.specs.TurnedAway.{turned, unless, checkElement, checkElements, checkSet, firstAbove, checkH, checkK, isLarge, isLargeAt, meetsLarge, exactIsLarge, superpositionIsLarge, analysis, superpositionAnswer}
+use Rattle.model.specs.TurnedAway.{turned, unless, checkElement, checkElements, checkSet, firstAbove, checkH, checkK, analysis, superpositionAnswer}
 use Rattle.model.specs.Sums.{every, once}
 
 -- 4 to 7, each beside the values next to it that are allowed
@@ -59,28 +55,3 @@ pub eight-at-the-first :
     checkH (λ place. place) (every 32768 0 1 1 ∷ every 11 0 1 1 ∷ every 32767 0 1 1 ∷ every 16777216 0 1 1 ∷ []) ≡ turned 8 2
 unfolding gcdIn gcd lcm least H unless firstAbove checkH
 eight-at-the-first = refl
-
--- 11 at its edge, and each number that it looks at. The values are far above the limits, so that each is met alone
-pub eleven-at-its-edge :
-    (isLarge 18446744073709551615 ≡ false)
-    × (isLarge 18446744073709551616 ≡ true)
-    -- Q
-    × (exactIsLarge (every 1 0 1 18446744073709551616 ∷ []) ≡ true)
-    -- D at a compared length, and up to the interval of verdict 2
-    × (exactIsLarge (once 0 1 18446744073709551615 ∷ []) ≡ false)
-    × (exactIsLarge (once 0 1 18446744073709551616 ∷ []) ≡ true)
-    × (exactIsLarge (every 1 0 1 2 ∷ once 0 1 18446744073709551616 ∷ []) ≡ true)
-    × (exactIsLarge (every 2 0 1 1 ∷ once 0 1 9223372036854775808 ∷ []) ≡ false)
-    -- in superposition H times D' as well, and H times I
-    × (superpositionIsLarge 1 (every 2 0 1 1 ∷ once 0 1 9223372036854775808 ∷ []) ≡ true)
-    × (superpositionIsLarge 1 (every 18446744073709551616 0 1 1 ∷ []) ≡ true)
-    × (superpositionIsLarge 1 (every 18446744073709551615 0 1 1 ∷ []) ≡ false)
-unfolding gcdIn gcd lcm least someBelow sumOver largestOver someOver F H demandOf D loadIn isTestOf isTest isOverrun multiple overloadAt failing stop scaledBy scaledIn isAbove isVisited isLarge isLargeAt meetsLarge exactIsLarge superpositionIsLarge
-eleven-at-its-edge = (refl, refl, refl, refl, refl, refl, refl, refl, refl, refl)
-
--- 11 has place 0, and comes after 8
-pub eleven-after-eight :
-    (numbers (analysis Fine (λ place. place) (λ s. true) exact []) ≡ refused 11 0)
-    × (numbers (analysis Fine (λ place. place) (λ s. true) exact (every 32768 0 1 1 ∷ every 32769 0 1 1 ∷ [])) ≡ refused 8 1)
-unfolding gcdIn gcd lcm least H unless firstAbove checkH analysis
-eleven-after-eight = (refl, refl)

@@ -7,7 +7,7 @@ use native.Mathlib.Omega.{arith}
 use native.Mathlib.Nat.{dvd-refl, dvd-zero, dvd-mod-iff, dvd-add-iff-right, mod-lt, dvd-mul-right-of-dvd, dvd-mul-left, dvd-mul-right, div-add-mod, mul-dvd-mul-left, mul-dvd-mul-right, div-mul-cancel, dvd-of-mul-dvd-mul-right, pos-of-dvd-of-pos, mul-pos, zero-lt-suc, mul-comm}
 use lib.Dec.{ltb}
 use borrow.Author.Tests.{lt-ltb, le-ltb}
-use Rattle.model.specs.Number.{gcdIn, gcd, lcm, least, someBelow, howMany}
+use Rattle.model.specs.Number.{gcdIn, gcd, lcm, least, howMany}
 use Rattle.model.proofs.Cases.{test, clash, lt-or-le}
 
 -- THE LEAST COMMON MULTIPLE
@@ -137,14 +137,6 @@ module _ (t : ℕ → Bool) where
       (least-is n))
       (λ (h : n ≤ i). omega (arith, least-none n (λ j a. f .none j (omega arith))))
       (lt-or-le i n)
-
-  pub some-below : (n i : ℕ) → i < n → t i ≡ true → someBelow t n ≡ true
-  unfolding someBelow
-  some-below n i l p = ⊎-elim (λ r. lt-ltb (least t n) n (r .0)) (λ r. absurd (clash p (r .1 i l))) (least-is n)
-
-  pub none-below : (n : ℕ) → None n → someBelow t n ≡ false
-  unfolding someBelow
-  none-below n q = le-ltb (least t n) n (omega (arith, least-none n q))
 
 -- HOW MANY PASS
 one-if : (a b : Bool) → (a ≡ true → b ≡ true) → cond a 1 0 ≤ cond b 1 0

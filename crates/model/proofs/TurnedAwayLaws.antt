@@ -1,5 +1,5 @@
 -- Laws of specs/TurnedAway: a check is fine exactly when each of its parts is; the checks from one element on. Assumes nothing.
-use Prim.Native.Nat.{ℕ, zero, suc, _+_, _≤_, _<_}
+use Prim.Native.Nat.{ℕ, zero, suc, _+_, _<_}
 use mathlib.Core.Path.{_≡_, refl, sym, ap, _∙_}
 use mathlib.Core.Bool.{Bool, true, false}
 use mathlib.Core.List.{List, [], _∷_}
@@ -8,7 +8,6 @@ use native.Mathlib.Omega.{arith}
 use lib.Dec.{leb}
 use lib.ListN.{length, getD, take, drop}
 use lib.Seq.{drop-cons}
-use borrow.Author.Tests.{lt-ltb, le-ltb, ltb-true, ltb-false}
 use Rattle.model.specs.declared.elements.Element.{Element}
 use Rattle.model.specs.declared.elements.TaskSet.{TaskSet}
 use Rattle.model.specs.declared.answers.Refusal.{Refusal}
@@ -16,7 +15,7 @@ use Rattle.model.specs.declared.answers.Check.{Check}
 use Rattle.model.specs.declared.answers.Check.the-variants.{Fine, TurnedAway}
 use Rattle.model.specs.Over.{allOver}
 use Rattle.model.specs.Elements.{places, mostK, within, isPeriod, isOffset, isDeadline, isCost, isLegal, AllLegal, counted, isLegalSet}
-use Rattle.model.specs.TurnedAway.{turned, unless, _then_, checkElement, checkElements, checkSet, checkK, isLarge}
+use Rattle.model.specs.TurnedAway.{turned, unless, _then_, checkElement, checkElements, checkSet, checkK}
 use Rattle.model.proofs.Cases.{clash, and-both, and-left, and-right}
 use Rattle.model.proofs.ElementLaws.{Within, within-is, legal-parts}
 
@@ -139,21 +138,3 @@ set-fine t =
 pub k-fine : (k : ℕ) → checkK k ≡ Fine → Within 1 mostK k
 unfolding checkK
 k-fine k h = within-is 1 mostK k (unless-fine (within 1 mostK k) 9 0 .0 h)
-
--- 11: the largest unsigned 64-bit number
-module _ (x : ℕ) where
-  pub is-large : 18446744073709551615 < x → isLarge x ≡ true
-  unfolding isLarge
-  is-large h = lt-ltb 18446744073709551615 x h
-
-  pub not-large : x ≤ 18446744073709551615 → isLarge x ≡ false
-  unfolding isLarge
-  not-large h = le-ltb 18446744073709551615 x h
-
-  pub large-is : isLarge x ≡ true → 18446744073709551615 < x
-  unfolding isLarge
-  large-is h = ltb-true 18446744073709551615 x h
-
-  pub fits-is : isLarge x ≡ false → x ≤ 18446744073709551615
-  unfolding isLarge
-  fits-is h = ltb-false 18446744073709551615 x h

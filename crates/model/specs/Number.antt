@@ -22,10 +22,6 @@ unfoldable pub least : (ℕ → Bool) → ℕ → ℕ
 least t zero = zero
 least t (suc n) = let i = least t n in cond (ltb i n) i (cond (t n) n (suc n))
 
--- some number below n passes the test
-unfoldable pub someBelow : (ℕ → Bool) → ℕ → Bool
-someBelow t n = ltb (least t n) n
-
 -- how many numbers below n pass the test
 unfoldable pub howMany : (ℕ → Bool) → ℕ → ℕ
 howMany t zero = zero

@@ -1,6 +1,6 @@
 -- Document 01, "What is turned away": the refusals of an analysis of a set in memory, and its answer.
-use Prim.Native.Nat.{ℕ, suc, _*_}
-use mathlib.Core.Bool.{Bool, _&&_, _||_, not, cond}
+use Prim.Native.Nat.{ℕ, suc}
+use mathlib.Core.Bool.{Bool, cond}
 use mathlib.Core.List.{List, [], _∷_}
 use lib.Dec.{leb, ltb}
 use lib.ListN.{length, take}
@@ -11,11 +11,11 @@ use Rattle.model.specs.declared.answers.Check.the-variants.{Fine, Turned
 use Rattle.model.specs.declared.answers.Verdict.{Verdict}
 use Rattle.model.specs.declared.answers.Answer.{Answer}
 use Rattle.model.specs.declared.answers.Answer.the-variants.{Refused, Given}
-use Rattle.model.specs.Number.{least, someBelow}
+use Rattle.model.specs.Number.{least}
 use Rattle.model.specs.Elements.{places, mostH, mostK, within, isPeriod, isOffset, isDeadline, isCost, counted}
-use Rattle.model.specs.Demand.{H, D, Q}
-use Rattle.model.specs.ExactTest.{overloadAt, Lengths, stop, exactLengths, exact}
-use Rattle.model.specs.Superposition.{HD', superpositionLengths, superposition}
+use Rattle.model.specs.Demand.{H}
+use Rattle.model.specs.ExactTest.{exact}
+use Rattle.model.specs.Superposition.{superposition}
 
 infixr 20 _then_
 -- by this number, at this place
@@ -58,47 +58,23 @@ checkH placeOf s = unless (leb (H s) mostH) 8 (placeOf (firstAbove s))
 unfoldable pub checkK : ℕ → Check
 checkK k = unless (within 1 mostK k) 9 0
 
--- 11: a number "is above the largest unsigned 64-bit number", place 0
-unfoldable pub isLarge : ℕ → Bool
-isLarge x = ltb 18446744073709551615 x
-
--- "I or D(I)"
-unfoldable pub isLargeAt : List Element → ℕ → Bool
-isLargeAt s I = isLarge I || isLarge (D s I)
-
--- "Q, or at a length that the test compares (for verdict 2, a length up to the interval shown)" a number that the test has there
-unfoldable pub meetsLarge : List Element → Lengths → (ℕ → Bool) → Bool
-meetsLarge s c isLargeThere =
-    let above = someBelow (isLargeAt s) (suc (overloadAt s)) in
-    let compared = someBelow (λ I. c .visited I && isLargeThere I) (stop c) in
-    isLarge (Q s) || cond (ltb (H s) (Q s)) above compared
-
-unfoldable pub exactIsLarge : List Element → Bool
-exactIsLarge s = meetsLarge s (exactLengths s) (isLargeAt s)
-
--- "or, in superposition with Q at most H, H times I or H times D'(I)"
-unfoldable pub superpositionIsLarge : ℕ → List Element → Bool
-superpositionIsLarge k s = meetsLarge s (superpositionLengths k s) (λ I. isLargeAt s I || isLarge (H s * I) || isLarge (HD' k s I))
-
 -- a refusal, or the verdict
 abbrev pub answered : Check → Verdict → Answer
 answered Fine v = Given v
 answered (TurnedAway r) v = Refused r
 
--- THE ANSWER OF AN ANALYSIS of the elements s: what is checked before 8, "then 8, then 11", then the verdict. placeOf gives the place of a table
--- place; the test says when it meets 11, and its verdict
-unfoldable pub analysis : Check → (ℕ → ℕ) → (List Element → Bool) → (List Element → Verdict) → List Element → Answer
-analysis before placeOf isTooLarge verdict s =
-    let fits = unless (not (isTooLarge s)) 11 0 in
-    let small = checkH placeOf s then fits in
+-- THE ANSWER OF AN ANALYSIS of the elements s: what is checked before 8, then 8, then the verdict. placeOf gives the place of a table place. What
+-- document 01 has after 8, its 11, is not looked for (request 2026-07): no number is too large (theory's every-sum-fits)
+unfoldable pub analysis : Check → (ℕ → ℕ) → (List Element → Verdict) → List Element → Answer
+analysis before placeOf verdict s =
     let v = verdict s in
-    answered (before then small) v
+    answered (before then checkH placeOf s) v
 
 -- "An analysis given a set in memory refuses count and values just as the writer does, then 8 at the table place of the first element that
--- brings H there, then 11."
+-- brings H there"
 unfoldable pub exactAnswer : TaskSet → Answer
-exactAnswer t = analysis (checkSet t) (λ place. place) exactIsLarge exact (counted t)
+exactAnswer t = analysis (checkSet t) (λ place. place) exact (counted t)
 
 -- "Superposition looks at k first."
 unfoldable pub superpositionAnswer : ℕ → TaskSet → Answer
-superpositionAnswer k t = analysis (checkK k then checkSet t) (λ place. place) (superpositionIsLarge k) (superposition k) (counted t)
+superpositionAnswer k t = analysis (checkK k then checkSet t) (λ place. place) (superposition k) (counted t)

@@ -1,3 +1,2 @@
-// What both tests work with: the places of a set as columns of numbers, and the sum that is compared.
+// What both tests work with: the places of a set as columns of numbers.
 pub mod columns;
-pub mod comparing;

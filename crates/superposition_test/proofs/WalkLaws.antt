@@ -1,57 +1,50 @@
 -- What holds whenever the walk turns to its next length, with `before` the last that it compared. Assumes nothing.
-use Prim.Native.Nat.{ℕ, suc, _+_, _*_, _-_, _≤_, _<_}
+use Prim.Native.Nat.{ℕ, suc, _+_, _*_, _-_, _^_, _≤_, _<_}
 use mathlib.Core.Path.{_≡_, sym, ap, _∙_}
-use mathlib.Core.Bool.{Bool, true, false, _||_, cond, or-true}
+use mathlib.Core.Bool.{Bool, true, false, cond}
 use mathlib.Core.List.{List}
 use mathlib.Core.Logic.{⊎-elim}
 use native.Mathlib.Omega.{arith}
-use native.Mathlib.Nat.{mul-le-mul}
 use borrow.Author.Tests.{lt-ltb, le-ltb}
 use lib.Dec.{ltb}
 use lib.ListN.{length}
 use Rattle.model.specs.declared.elements.Element.{Element}
 use Rattle.model.specs.declared.elements.TaskSet.{TaskSet}
+use Rattle.model.specs.declared.answers.Verdict.{Verdict}
 use Rattle.model.specs.declared.answers.Verdict.the-variants.{Passes, NotShown}
-use Rattle.model.specs.declared.answers.Answer.{Answer}
-use Rattle.model.specs.declared.answers.Answer.the-variants.{Given}
 use Rattle.model.specs.Number.{howMany}
-use Rattle.model.specs.Elements.{mostCost, mostH, places, filler, counted}
+use Rattle.model.specs.Elements.{mostH, places, counted}
 use Rattle.model.specs.Demand.{H, D, loadIn}
+use Rattle.model.specs.ExactTest.{Lengths, comparing}
 use Rattle.model.specs.Superposition.{m, HD', isAbove, isVisited, superpositionLengths}
-use Rattle.model.specs.TurnedAway.{isLarge, isLargeAt}
 use Rattle.model.proofs.Cases.{test, clash, lt-or-le}
 use Rattle.model.proofs.NumberLaws.{howMany-zero, howMany-gap, howMany-more, howMany-all}
-use Rattle.model.proofs.OverLaws.{each-map, sum-le, sum-zero, sum-most}
+use Rattle.model.proofs.OverLaws.{each-map, sum-le, sum-zero}
 use Rattle.model.proofs.ElementLaws.{Legal, all-legal}
-use Rattle.model.proofs.TurnedAwayLaws.{is-large, not-large}
 use Rattle.theory.specs.Approximation.{budget}
 use Rattle.theory.specs.Growth as growth
 use Rattle.theory.proofs.ScaledDemandGrows.{scaled-grows, slope-grows, scaled-rises-along}
 use Rattle.theory.proofs.SuperpositionAnswers.{visited-below}
 use Rattle.theory.proofs.SuperpositionIsSafe.{scaled-starts}
 use Rattle.theory.proofs.SuperpositionIsShort.{visits-at-most}
-use Rattle.places.specs.declared.comparing.Sum.the-variants as sum
 use Rattle.superposition_test.specs.declared.walk.Moved.{Moved}
-use Rattle.places.specs.Sums.{sumOf}
-use Rattle.theory.specs.Comparing.{refusedBy, compared, isLargeWith}
 use Rattle.theory.specs.Places.{elementAt}
 use Rattle.places.proofs.ColumnLaws.{Laid}
-use Rattle.theory.specs.Sizes.{mostLength}
+use Rattle.theory.specs.Sizes.{mostLength, SuperpositionFits}
 use Rattle.superposition_test.specs.Walk.{none, Walkable, Least, Limited, Movable, MovedOn}
 use Rattle.theory.proofs.PlaceLaws.{LegalPlaces}
-use Rattle.places.proofs.SumLaws.{sum-tells}
-use Rattle.theory.proofs.ComparingLaws.{Upto, upto-zero, upto-gap, upto-more, compared-large, compared-failing, compared-clear}
+use Rattle.theory.proofs.EverySumFits.{every-sum-fits}
+use Rattle.theory.proofs.ExactTestLaws.{Upto, upto-zero, upto-gap, upto-more, comparing-fails, comparing-holds}
 use Rattle.places.proofs.ColumnLaws.{step-within}
 use Rattle.theory.proofs.LoadLaws.{rise-most}
-use Rattle.theory.proofs.SizeLaws.{visited-small, demand-small}
+use Rattle.theory.proofs.SizeLaws.{visited-small}
 use Rattle.superposition_test.proofs.NextLaws.{not-at-zero, next-start}
 use Rattle.superposition_test.proofs.VisitLaws.{Columns, Nexts, visits-place, quiet, at-later, at-visited}
 use Rattle.superposition_test.proofs.VisitLaws.{moved-nexts, moved-due, moved-rise}
 
 module _ (t : TaskSet) (k h : ℕ) where
-  -- the visited lengths up to x hold and fit
-  abbrev Passed : ℕ → Type 0
-  Passed x = Upto (superpositionLengths k (counted t)) (isLargeWith k (counted t)) (suc x)
+  abbrev lengths : Lengths
+  lengths = superpositionLengths k (counted t)
 
   abbrev slopeAt : ℕ → ℕ
   slopeAt I = growth.slope k (H (counted t)) (counted t) I
@@ -64,7 +57,7 @@ module _ (t : TaskSet) (k h : ℕ) where
     pub nexts : Nexts t k before next
     pub sum : scaled ≡ HD' k (counted t) before
     pub slopes : slope ≡ slopeAt before
-    pub passed : Passed before
+    pub passed : Upto lengths (suc before)
     pub counts : count ≡ howMany (isVisited k (counted t)) (suc before)
     pub few : count ≤ before
     pub low : before ≤ mostLength
@@ -100,7 +93,7 @@ module _ (t : TaskSet) (k h : ℕ) where
       nexts = λ i q. rw (a .nexts i q) (next-start k (elementAt t i) (p .legal i q));
       sum = sym (scaled-starts k (H (counted t)) (counted t) (w .low) (all-legal (counted t) (p .all)));
       slopes = sym slope-starts;
-      passed = upto-gap _ _ 0 1 (upto-zero _ _) (λ J m n. let z : J ≡ 0 = omega arith in rw z zero-unvisited);
+      passed = upto-gap lengths 0 1 (upto-zero lengths) (λ J m n. let z : J ≡ 0 = omega arith in rw z zero-unvisited);
       counts =
           let g = howMany-gap (isVisited k (counted t)) 0 1 (λ J m n. let z : J ≡ 0 = omega arith in rw z zero-unvisited) in
           sym (g ∙ howMany-zero (isVisited k (counted t)));
@@ -108,8 +101,8 @@ module _ (t : TaskSet) (k h : ℕ) where
       low = omega arith;
     }
 
-  abbrev answer : Answer
-  answer = compared (counted t) NotShown (superpositionLengths k (counted t)) (isLargeWith k (counted t))
+  abbrev verdict : Verdict
+  verdict = comparing (counted t) NotShown lengths
 
   -- THE MOVE: every place that has the length `at` has moved on; what is due there is added, and the slope grows by `more`
   pub record Turning (step cost last rise next : List ℕ) (before scaled slope count at due more : ℕ) : Type 0 where
@@ -119,27 +112,23 @@ module _ (t : TaskSet) (k h : ℕ) where
     pub long : length next ≡ places
     pub nexts : Nexts t k at next
     pub later : before < at
-    pub low : at ≤ mostLength
+    pub numbers : SuperpositionFits k (counted t) at
     pub visit : isVisited k (counted t) at ≡ true
-    pub passed : Upto (superpositionLengths k (counted t)) (isLargeWith k (counted t)) at
+    pub passed : Upto lengths at
     pub sum : scaled + (slope * (at - before) + due * h) ≡ HD' k (counted t) at
     pub slopes : slope + more ≡ slopeAt at
     pub counts : count ≡ howMany (isVisited k (counted t)) at
     pub within : count < budget k (counted t)
     pub few : count ≤ before
-    pub line-small : slope * (at - before) ≤ mostH * mostLength
-    pub due-few : due ≤ places * mostCost
-    pub due-small : due * h ≤ places * mostCost * mostH
     pub slope-small : slope + more ≤ mostH
-    pub top-small : h * at ≤ mostH * mostLength
-
-  part-of : (b : Bool) (x : ℕ) → (cond b x 0 ≤ x) × (cond b 0 x ≤ x)
-  part-of true x = (omega arith, omega arith)
-  part-of false x = (omega arith, omega arith)
 
   slope-part :
       (I : ℕ) (e : Element) → Legal e → cond (ltb I (m k e)) 0 (growth.riseOf (H (counted t)) e) ≤ growth.riseOf (H (counted t)) e
-  slope-part I e g = part-of (ltb I (m k e)) (growth.riseOf (H (counted t)) e) .1
+  slope-part I e g = part-of (ltb I (m k e)) (growth.riseOf (H (counted t)) e)
+    where
+      part-of : (b : Bool) (x : ℕ) → cond b 0 x ≤ x
+      part-of true x = omega arith
+      part-of false x = omega arith
 
   module _
       {step cost last rise next : List ℕ} {before scaled slope count : ℕ}
@@ -155,15 +144,14 @@ module _ (t : TaskSet) (k h : ℕ) where
         )
 
     -- THE END: no length is visited past the last compared
-    done : ((I : ℕ) → isVisited k (counted t) I ≡ true → I < suc before) → Given (Passes count) ≡ answer
+    done : ((I : ℕ) → isVisited k (counted t) I ≡ true → I < suc before) → Passes count ≡ verdict
     done rest =
-        let c = superpositionLengths k (counted t) in
-        let u = upto-gap c (isLargeWith k (counted t)) (suc before) (c .end) (w .passed) (λ J a b.
+        let u = upto-gap lengths (suc before) (lengths .end) (w .passed) (λ J a b.
         ⊎-elim (λ v. absurd (omega (arith, rest J v))) (λ v. v) (test (isVisited k (counted t) J))) in
-        ap (λ n. Given (Passes n)) (w .counts ∙ howMany-all (isVisited k (counted t)) (suc before) (c .end) rest (visited-below k (counted t)))
-        ∙ sym (compared-clear (counted t) NotShown c (isLargeWith k (counted t)) (c .end) (omega arith) u)
+        ap Passes (w .counts ∙ howMany-all (isVisited k (counted t)) (suc before) (lengths .end) rest (visited-below k (counted t)))
+        ∙ sym (comparing-holds (counted t) NotShown lengths u)
 
-    pub none-left : Least next (t .count) none → Given (Passes count) ≡ answer
+    pub none-left : Least next (t .count) none → Passes count ≡ verdict
     none-left l = done (λ I v. ⊎-elim
         (λ a. absurd (clash v (quiet t (w .set) k before none next (w .nexts) l I a (omega (arith, visited-small (counted t) (w .set .all) k (w .fit .high) I v)))))
         (λ a. omega arith)
@@ -174,8 +162,10 @@ module _ (t : TaskSet) (k h : ℕ) where
       visit : isVisited k (counted t) at ≡ true
       visit = at-visited t (w .set) k before at next (w .nexts) l b
 
-      high : at ≤ mostLength
-      high = visited-small (counted t) (w .set .all) k (w .fit .high) at visit
+      numbers : SuperpositionFits k (counted t) at
+      numbers =
+          every-sum-fits (counted t) (w .set .all) (w .set .short) (omega (arith, w .fit .hyperperiod, w .fit .small)) .superposition
+          (omega (arith, w .fit .hyperperiod, w .fit .load)) k (w .fit .low) (w .fit .high) at visit
 
       later : before < at
       later = at-later t (w .set) k before at next (w .nexts) l b
@@ -189,7 +179,7 @@ module _ (t : TaskSet) (k h : ℕ) where
         rises = λ i q.
             rw (w .columns .rises i q)
             (rise-most (elementAt t i) (w .set .legal i q) (H (counted t)) (omega (arith, w .fit .hyperperiod, w .fit .small)));
-        low = high;
+        low = omega (arith, numbers .length);
       }
 
       -- the ticks between the last length and the one before this
@@ -227,17 +217,6 @@ module _ (t : TaskSet) (k h : ℕ) where
         due-is : r .cost ≡ growth.visitedDueAt k (counted t) at
         due-is = moved-due t (w .set) k before at next (w .nexts) l b (w .columns) v
 
-        due-most : r .cost ≤ places * mostCost
-        unfolding growth.costOf
-        due-most =
-            omega (
-              arith,
-              due-is,
-              sum-most (t .table) (λ e. cond (growth.isVisitedBy k at e) (e .cost) 0) filler mostCost (t .count) (λ i q.
-                  omega (arith, part-of (growth.isVisitedBy k at (elementAt t i)) (elementAt t i .cost) .0, w .set .legal i q .cost .1)),
-              w .set .few,
-            )
-
         scaled-is : scaled + (slope * (at - before) + r .cost * h) ≡ HD' k (counted t) at
         scaled-is =
             let g = rw at-is at (scaled-grows k (counted t) (w .set .all) (w .fit .low) (before + ticks)) in
@@ -257,76 +236,56 @@ module _ (t : TaskSet) (k h : ℕ) where
           long = v .long;
           nexts = moved-nexts t (w .set) k before at next (w .nexts) l b (w .columns) v;
           later = later;
-          low = high;
+          numbers = numbers;
           visit = visit;
-          passed = upto-gap _ _ (suc before) at (w .passed) (λ J m n. quiet t (w .set) k before at next (w .nexts) l J m n);
+          passed = upto-gap lengths (suc before) at (w .passed) (λ J m n. quiet t (w .set) k before at next (w .nexts) l J m n);
           sum = scaled-is;
           slopes = slope-is;
           counts = counts-is;
           within = few-enough;
           few = w .few;
-          line-small =
-              mul-le-mul {n₁ = slope} {m₁ = at - before} {n₂ = mostH} {m₂ = mostLength}
-              (omega (arith, w .slopes, slope-most before)) (omega (arith, high));
-          due-few = due-most;
-          due-small = mul-le-mul {n₁ = r .cost} {m₁ = h} {n₂ = places * mostCost} {m₂ = mostH} due-most (w .fit .small);
           slope-small = omega (arith, slope-is, slope-most at);
-          top-small = mul-le-mul {n₁ = h} {m₁ = at} {n₂ = mostH} {m₂ = mostLength} (w .fit .small) high;
         }
 
   -- WHAT IS FOUND THERE
   module _
       {step cost last rise next : List ℕ} {before scaled slope count at due more : ℕ}
       (w : Turning step cost last rise next before scaled slope count at due more) where
-    below-end : at < superpositionLengths k (counted t) .end
-    below-end = visited-below k (counted t) at (w .visit)
-
     top-is : H (counted t) * at ≡ h * at
     top-is = ap (λ z. z * at) (sym (w .fit .hyperperiod))
 
-    pub too-large : sum.TooLarge ≡ sumOf scaled (slope * (at - before) + due * h) → refusedBy 11 0 ≡ answer
-    too-large g =
-        let big = is-large (HD' k (counted t) at) (omega (arith, sum-tells scaled (slope * (at - before) + due * h) g, w .sum)) in
-        sym (compared-large _ _ _ _ at below-end (w .passed) (w .visit) (rw big (or-true (isLargeAt (counted t) at || isLarge (H (counted t) * at)))))
+    -- the sum that is compared, with each of its parts, and what it is compared with
+    pub sum-fits : scaled + (slope * (at - before) + due * h) < 2 ^ 63
+    sum-fits = omega (arith, w .sum, w .numbers .scaled-demand)
 
-    module _ {x : ℕ} (g : sum.Fits x ≡ sumOf scaled (slope * (at - before) + due * h)) where
-      x-is : x ≡ HD' k (counted t) at
-      x-is = sum-tells scaled (slope * (at - before) + due * h) g .0 ∙ w .sum
+    pub top-fits : h * at ≤ 2 ^ 62
+    top-fits = omega (arith, top-is, w .numbers .scaled-length)
 
-      none-large : isLargeWith k (counted t) at ≡ false
-      unfolding isLargeAt
-      none-large =
-          let s = counted t in
-          rw (
-            not-large at (omega (arith, w .low)),
-            not-large (D s at) (omega (arith, demand-small s (w .set .all) (w .set .short) at, w .low)),
-            not-large (H s * at) (omega (arith, w .top-small, top-is)),
-            not-large (HD' k s at) (omega (arith, w .sum, sum-tells scaled (slope * (at - before) + due * h) g .1)),
-          )
+    one-more : count + 1 ≡ howMany (isVisited k (counted t)) (suc at)
+    one-more = omega (arith, w .counts, rw (w .visit) at (howMany-more (isVisited k (counted t)) at))
 
-      one-more : count + 1 ≡ howMany (isVisited k (counted t)) (suc at)
-      one-more = omega (arith, w .counts, rw (w .visit) at (howMany-more (isVisited k (counted t)) at))
+    pub failing : h * at < scaled + (slope * (at - before) + due * h) → NotShown at (D (counted t) at) (count + 1) ≡ verdict
+    unfolding isAbove
+    failing u =
+        let above = lt-ltb (H (counted t) * at) (HD' k (counted t) at) (omega (arith, w .sum, top-is)) in
+        ap (λ n. NotShown at (D (counted t) at) n) one-more
+        ∙ sym (comparing-fails (counted t) NotShown lengths at
+        (record { below = visited-below k (counted t) at (w .visit); visit = w .visit; failure = above; before = w .passed }))
 
-      pub failing : h * at < x → Given (NotShown at (D (counted t) at) (count + 1)) ≡ answer
-      unfolding isAbove
-      failing u =
-          let above = lt-ltb (H (counted t) * at) (HD' k (counted t) at) (omega (arith, x-is, top-is)) in
-          ap (λ n. Given (NotShown at (D (counted t) at) n)) one-more ∙ sym (compared-failing _ _ _ _ at below-end (w .passed) (w .visit) none-large above)
-
-      pub again : x ≤ h * at → Walking step cost last rise next at x (slope + more) (count + 1)
-      unfolding isAbove
-      again u = record {
-        set = w .set;
-        fit = w .fit;
-        columns = w .columns;
-        long = w .long;
-        nexts = w .nexts;
-        sum = x-is;
-        slopes = w .slopes;
-        passed =
-            let holds = le-ltb (H (counted t) * at) (HD' k (counted t) at) (omega (arith, x-is, top-is)) in
-            upto-more _ _ at (w .passed) holds none-large;
-        counts = one-more;
-        few = omega (arith, w .few, w .later);
-        low = w .low;
-      }
+    pub again :
+        scaled + (slope * (at - before) + due * h) ≤ h * at →
+        Walking step cost last rise next at (scaled + (slope * (at - before) + due * h)) (slope + more) (count + 1)
+    unfolding isAbove
+    again u = record {
+      set = w .set;
+      fit = w .fit;
+      columns = w .columns;
+      long = w .long;
+      nexts = w .nexts;
+      sum = w .sum;
+      slopes = w .slopes;
+      passed = upto-more lengths at (w .passed) (le-ltb (H (counted t) * at) (HD' k (counted t) at) (omega (arith, w .sum, top-is)));
+      counts = one-more;
+      few = omega (arith, w .few, w .later);
+      low = omega (arith, w .numbers .length);
+    }

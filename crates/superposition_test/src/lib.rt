@@ -11,7 +11,7 @@ use model::TaskSet;
 use model::checks::check_k;
 use walk::walk;
 
-// 9, then a refusal by 3 to 8, or 11, or the verdict.
+// 9, then a refusal by 3 to 8, or the verdict.
 pub fn superposition(set: TaskSet, k: u32) -> Answer
     ensures { λ r. ⌜ SuperpositionSays set k r ⌝ }
 {
@@ -25,6 +25,6 @@ pub fn superposition(set: TaskSet, k: u32) -> Answer
             first: _,
             hyperperiod,
             load: _,
-        } => walk(set, k as u64, hyperperiod),
+        } => Answer::Given(walk(set, k as u64, hyperperiod)),
     }
 }

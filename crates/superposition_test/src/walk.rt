@@ -5,22 +5,18 @@ ghost use Prim.Native.Nat.{_≤_};
 ghost use lib.ListN.{length};
 ghost use Rattle.model.specs.declared.answers.Verdict.the-variants.{NotShown};
 ghost use Rattle.model.specs.Elements.{places, mostH, mostK, isLegal, isLegalSet, counted};
+ghost use Rattle.model.specs.ExactTest.{comparing};
 ghost use Rattle.model.specs.Superposition.{m, superpositionLengths};
-ghost use Rattle.theory.specs.Comparing.{compared, isLargeWith};
 ghost use Rattle.superposition_test.specs.Walk.{Least, Stepped, Limited, Movable, MovedOn, Walkable};
 use load::demand_at;
-use model::Answer;
 use model::Element;
 use model::Period;
-use model::Refusal;
 use model::TaskSet;
 use model::Verdict;
 use model::elements::PLACES;
 use model::elements::first_due;
 use places::columns::NONE_LEFT;
 use places::columns::lay;
-use places::comparing::Sum;
-use places::comparing::add;
 
 // The least of the first next lengths, none left where there is none.
 fn least(next: &[u64; PLACES], count: usize) -> u64
@@ -120,9 +116,9 @@ fn move_on(
 }
 
 // The walk with load at most one: at each step the least next length is compared, until none is left.
-pub(crate) fn walk(set: TaskSet, k: u64, h: u64) -> Answer
+pub(crate) fn walk(set: TaskSet, k: u64, h: u64) -> Verdict
     requires { ⌜ Walkable set k h ⌝ }
-    ensures { λ r. ⌜ r ≡ compared (counted set) NotShown (superpositionLengths k (counted set)) (isLargeWith k (counted set)) ⌝ }
+    ensures { λ r. ⌜ r ≡ comparing (counted set) NotShown (superpositionLengths k (counted set)) ⌝ }
 {
     let mut next = [NONE_LEFT; PLACES];
     let mut step = [1u64; PLACES];
@@ -138,26 +134,19 @@ pub(crate) fn walk(set: TaskSet, k: u64, h: u64) -> Answer
     loop {
         let at = least(&next, set.count);
         if at == NONE_LEFT {
-            return Answer::Given(Verdict::Passes { count });
+            return Verdict::Passes { count };
         }
         let moved = move_on(&mut next, &step, &cost, &last, &rise, set.count, at);
-        let due = moved.cost;
-        let Sum::Fits(sum) = add(scaled, slope * (at - before) + due * h) else {
-            return Answer::Refused(Refusal {
-                number: 11,
-                place: 0,
-            });
-        };
+        scaled = scaled + (slope * (at - before) + moved.cost * h);
         count = count + 1;
-        if h * at < sum {
+        if h * at < scaled {
             let demand = demand_at(set, at);
-            return Answer::Given(Verdict::NotShown {
+            return Verdict::NotShown {
                 interval: at,
                 demand,
                 count,
-            });
+            };
         }
-        scaled = sum;
         slope = slope + moved.rise;
         before = at;
     }

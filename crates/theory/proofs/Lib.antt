@@ -20,10 +20,8 @@ pub mod SuperpositionIsClose
 pub mod SuperpositionIsShort
 pub mod EverySumFits
 pub mod TakenSetsAreLegal
-pub mod ElevenIsNeverMet
 pub mod NothingPastTheCount
 pub mod StarredSums
-pub mod ComparingLaws
 pub mod AnswerLaws
 pub mod PlaceLaws
 pub mod AddingUp

@@ -2,7 +2,6 @@
 -- elements hold of every verdict given. Assumes nothing.
 use Prim.Native.Nat.{ℕ, _≤_}
 use mathlib.Core.Path.{_≡_, refl}
-use mathlib.Core.Bool.{Bool}
 use mathlib.Core.List.{List}
 use native.Mathlib.Omega.{arith}
 use lib.ListN.{length, length-take}
@@ -23,13 +22,13 @@ given-fine (TurnedAway r) w v h = absurd (let z : _≡_ {A = ℕ} 0 1 = cc in om
 
 -- a verdict comes after every check, and is the test's own
 pub verdict-is :
-    (before : Check) (placeOf : ℕ → ℕ) (isTooLarge : List Element → Bool) (verdict : List Element → Verdict) (s : List Element) (v : Verdict) →
-    analysis before placeOf isTooLarge verdict s ≡ Given v → (before ≡ Fine) × (checkH placeOf s ≡ Fine) × (v ≡ verdict s)
+    (before : Check) (placeOf : ℕ → ℕ) (verdict : List Element → Verdict) (s : List Element) (v : Verdict) →
+    analysis before placeOf verdict s ≡ Given v → (before ≡ Fine) × (checkH placeOf s ≡ Fine) × (v ≡ verdict s)
 unfolding analysis
-verdict-is before placeOf isTooLarge verdict s v h =
+verdict-is before placeOf verdict s v h =
     let g = given-fine _ (verdict s) v h in
-    let b = then-fine before _ .0 (g .0) in
-    (b .0, then-fine (checkH placeOf s) _ .0 (b .1) .0, g .1)
+    let b = then-fine before (checkH placeOf s) .0 (g .0) in
+    (b .0, b .1, g .1)
 
 -- a set whose count and values are fine
 pub fine-is-legal : (t : TaskSet) → checkSet t ≡ Fine → AllLegal (counted t) × (length (counted t) ≤ places)

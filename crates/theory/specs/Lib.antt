@@ -5,4 +5,3 @@ pub mod Approximation
 pub mod Growth
 pub mod Places
 pub mod Sizes
-pub mod Comparing

@@ -18,7 +18,7 @@ use Rattle.model.specs.Elements.{places, mostH}
 use Rattle.model.specs.Demand.{H}
 use Rattle.model.specs.ExactTest.{exact}
 use Rattle.model.specs.Superposition.{superposition}
-use Rattle.model.specs.TurnedAway.{unless, _then_, checkElement, firstAbove, checkH, checkK, analysis, exactIsLarge, superpositionIsLarge}
+use Rattle.model.specs.TurnedAway.{unless, _then_, checkElement, firstAbove, checkH, checkK, analysis}
 use Rattle.model.proofs.Cases.{test, lt-or-le}
 use Rattle.wire.specs.Format.{numberAt, kindOf, isKind, bodySize, recordSize, elementFrom, elementOf}
 use Rattle.wire.specs.Reading.{checkRecord, noBytes, checkRecords, elementsIn}
@@ -146,22 +146,22 @@ module _ (n : ℕ) (b : List ℕ) (h : 17 * suc places ≤ n) where
       ap (unless (leb (H s) mostH) 8) (same-kind-byte (firstAbove s) n b (omega (arith, first-within s, few-elements places b)))
 
   same-analysis :
-      {c d : Check} (isTooLarge : List Element → Bool) (verdict : List Element → Verdict) →
+      {c d : Check} (verdict : List Element → Verdict) →
       c ≡ d →
-      analysis c (kindByte (take n b)) isTooLarge verdict (elementsIn places (take n b)) ≡ analysis d (kindByte b) isTooLarge verdict (elementsIn places b)
+      analysis c (kindByte (take n b)) verdict (elementsIn places (take n b)) ≡ analysis d (kindByte b) verdict (elementsIn places b)
   unfolding analysis
-  same-analysis isTooLarge verdict e = rw (e, same-elements places n b (omega arith), same-H)
+  same-analysis verdict e = rw (e, same-elements places n b (omega arith), same-H)
 
   same-records : checkRecords places 0 (take n b) ≡ checkRecords places 0 b
   same-records = same-checks places 0 n b h
 
   same-exact : exactOfBytes (take n b) ≡ exactOfBytes b
   unfolding exactOfBytes
-  same-exact = same-analysis exactIsLarge exact same-records
+  same-exact = same-analysis exact same-records
 
   same-superposition : (k : ℕ) → superpositionOfBytes k (take n b) ≡ superpositionOfBytes k b
   unfolding superpositionOfBytes
-  same-superposition k = same-analysis (superpositionIsLarge k) (superposition k) (ap (λ x. checkK k then x) same-records)
+  same-superposition k = same-analysis (superposition k) (ap (λ x. checkK k then x) same-records)
 
   -- THEOREM: as many bytes as 129 records can have decide
   pub first-records-decide : printed (take n b) ≡ printed b

@@ -2,14 +2,14 @@
 use Prim.Native.Nat.{ℕ}
 use mathlib.Core.Path.{_≡_, refl}
 use mathlib.Core.List.{List, [], _∷_}
-use Rattle.model.specs.Number.{gcdIn, gcd, lcm, least, someBelow, howMany}
+use Rattle.model.specs.Number.{gcdIn, gcd, lcm, least, howMany}
 use Rattle.model.specs.Over.{sumOver, largestOver, someOver, allOver}
 use Rattle.model.specs.Elements.{within, isPeriod, isOffset, isDeadline, isCost}
 use Rattle.model.specs.Demand.{F, H, demandOf, D, loadIn, isTestOf, isTest}
 use Rattle.model.specs.ExactTest.{isOverrun, multiple, overloadAt, overload, failing, stop, comparing, byLoad, exact}
 use Rattle.model.specs.Superposition.{scaledBy, scaledIn, isAbove, isVisited, superposition}
 use Rattle.model.specs.Sums.{S5, S7, S11-refused}
-use Rattle.model.specs.TurnedAway.{unless, checkElement, firstAbove, checkH, checkK, isLarge, isLargeAt, meetsLarge, exactIsLarge, superpositionIsLarge, analysis}
+use Rattle.model.specs.TurnedAway.{unless, checkElement, firstAbove, checkH, checkK, analysis}
 use Rattle.wire.specs.Format.{numberBytes, isKind, bodySize, recordSize, elementOf, startOf, recordOf, recordsOf}
 use Rattle.wire.specs.Reading.{checkRecord, noBytes, checkRecords, elementsIn}
 use Rattle.analysis.specs.InBytes.{kindByte, exactOfBytes, superpositionOfBytes}
@@ -59,5 +59,5 @@ pub printout :
     × (printed (recordsOf S5) ≡ S5-text)
     × (printed (0 ∷ []) ≡ unknown-kind)
     × (printed (recordsOf S11-refused) ≡ long-hyperperiod)
-unfolding gcdIn gcd lcm least someBelow howMany sumOver largestOver someOver allOver within isPeriod isOffset isDeadline isCost F H demandOf D loadIn isTestOf isTest isOverrun multiple overloadAt overload failing stop comparing byLoad exact scaledBy scaledIn isAbove isVisited superposition unless checkElement firstAbove checkH checkK isLarge isLargeAt meetsLarge exactIsLarge superpositionIsLarge analysis numberBytes isKind bodySize recordSize elementOf startOf recordOf recordsOf checkRecord noBytes checkRecords elementsIn kindByte exactOfBytes superpositionOfBytes decimal field line refusedLine lines shownOf printedOf printed
+unfolding gcdIn gcd lcm least howMany sumOver largestOver someOver allOver within isPeriod isOffset isDeadline isCost F H demandOf D loadIn isTestOf isTest isOverrun multiple overloadAt overload failing stop comparing byLoad exact scaledBy scaledIn isAbove isVisited superposition unless checkElement firstAbove checkH checkK analysis numberBytes isKind bodySize recordSize elementOf startOf recordOf recordsOf checkRecord noBytes checkRecords elementsIn kindByte exactOfBytes superpositionOfBytes decimal field line refusedLine lines shownOf printedOf printed
 printout = (refl, refl, refl, refl)

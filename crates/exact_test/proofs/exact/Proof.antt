@@ -50,7 +50,7 @@ returns-2 c =
 returns-3 : tie.Need-returns-3
 returns-3 c =
     let k = tells (c .before) in
-    c .compare-lengths .ensures ∙ exact-compared _ (k .0) (k .4) (k .5) _ (omega (arith, k .1, k .2))
+    rw (c .compare-lengths .ensures) (exact-compared _ (k .0) (k .4) (k .5) _ (omega (arith, k .1, k .2)))
 
 pub exact-spec : {M : Type 1} → statement M
 exact-spec =

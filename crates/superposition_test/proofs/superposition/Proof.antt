@@ -61,7 +61,7 @@ returns-3 c =
 returns-4 : tie.Need-returns-4
 returns-4 c =
     let k = tells (c .before) in
-    c .walk .ensures ∙ superposition-compared _ _ (fine (c .before .before .before .before .before)) (k .0) (k .4) (k .5)
+    rw (c .walk .ensures) (superposition-compared _ _ (fine (c .before .before .before .before .before)) (k .0) (k .4) (k .5))
 
 pub superposition-spec : {M : Type 1} → statement M
 superposition-spec =

@@ -2,7 +2,6 @@
 use mathlib.Core.Path.{sym, _∙_}
 use denote.Ref.{now}
 use Rattle.model.specs.ExactTest.{exact}
-use Rattle.model.specs.TurnedAway.{exactIsLarge}
 use borrow.Author.Needs.{needs}
 use Rattle.analysis.proofs.ByteLaws.{answer-placed}
 use Rattle.analysis.proofs.EntryLaws.{Read, read-checks, read-taken, exact-read, exact-bytes-refused, exact-bytes-taken}
@@ -32,7 +31,7 @@ exact-requires c κs = search needs
 in-bytes-requires : tie.Need-in-bytes-requires
 in-bytes-requires c κs =
     let k = read (c .before) in
-    (k .fine, rw (c .exact .ensures, exact-read k) (answer-placed exactIsLarge exact _))
+    (k .fine, rw (c .exact .ensures, exact-read k) (answer-placed exact _))
 
 returns-2 : tie.Need-returns-2
 returns-2 c =

@@ -4,7 +4,7 @@ use denote.Ref.{now}
 use borrow.Author.Needs.{needs}
 use Rattle.model.specs.declared.answers.Check.the-variants.{Fine}
 use Rattle.model.specs.Superposition.{superposition}
-use Rattle.model.specs.TurnedAway.{checkK, superpositionIsLarge}
+use Rattle.model.specs.TurnedAway.{checkK}
 use Rattle.model.proofs.TurnedAwayLaws.{then-fine}
 use Rattle.analysis.proofs.ByteLaws.{answer-placed}
 use Rattle.analysis.proofs.EntryLaws.{Read, read-checks, read-taken, superposition-read, superposition-bytes-refused-k, superposition-bytes-refused, superposition-bytes-taken}
@@ -51,7 +51,7 @@ superposition-requires c κs = search needs
 in-bytes-requires : tie.Need-in-bytes-requires
 in-bytes-requires c κs =
     let k = read (c .before) in
-    (k .fine, rw (c .superposition .ensures, superposition-read k _ (fine (c .before .before .before .before))) (answer-placed (superpositionIsLarge _) (superposition _) _))
+    (k .fine, rw (c .superposition .ensures, superposition-read k _ (fine (c .before .before .before .before))) (answer-placed (superposition _) _))
 
 returns-3 : tie.Need-returns-3
 returns-3 c =

@@ -57,17 +57,11 @@ sweep-requires c κs =
     let full = c .before .before .fill .ensures in
     (full .1, (sweep-fits _ _ _ _ _ _ _ _ _ _ k (c .before .before .before .before .before .before .before .before .before .loop-test .taken) _ (c .before .before .before .before .before .before .before .before .segment .ensures) _ _ _ (full .0) (full .1 .due-long), omega (arith, k .low)))
 
-enum-told : tie.Need-enum-told Inv-loop μ-loop
-enum-told c = search needs
-
-returns : tie.Need-returns Inv-loop μ-loop
-returns c = sym (told (c .before .before) _ (c .enum-told .given .1))
-
 enum-known-v : tie.Need-enum-known-v Inv-loop μ-loop
 enum-known-v c = search needs
 
-returns-2 : tie.Need-returns-2 Inv-loop μ-loop
-returns-2 c = sym (told (c .before .before .before) _ (c .before .v .given .1))
+returns : tie.Need-returns Inv-loop μ-loop
+returns c = sym (told (c .before .before .before) _ (c .before .v .given .1))
 
 enum-known-d : tie.Need-enum-known-d Inv-loop μ-loop
 enum-known-d c = search needs
@@ -82,8 +76,8 @@ loop-again c =
     next-stage _ _ _ _ _ _ _ _ _ _ (w .before .before .before .before .before .before .before .before .before .before .before .loop .inv) (w .before .before .before .before .before .before .before .before .before .before .loop-test .taken) _ (w .before .before .before .before .before .before .before .before .before .segment .ensures) _ _ _ (full .0) (full .1 .due-long) _ _ _ _
     (told w _ (c .before .d .given .1)) (rw (c .before .d .given .1) at (w .sweep .ensures .1))
 
-returns-3 : tie.Need-returns-3 Inv-loop μ-loop
-returns-3 c = end _ _ _ _ _ _ _ _ _ _ (c .before .loop .inv) (c .loop-test .left)
+returns-2 : tie.Need-returns-2 Inv-loop μ-loop
+returns-2 c = end _ _ _ _ _ _ _ _ _ _ (c .before .loop .inv) (c .loop-test .left)
 
 pub compare-lengths-spec : {M : Type 1} → statement M
 compare-lengths-spec =
@@ -96,11 +90,9 @@ compare-lengths-spec =
     segment-requires
     fill-requires
     sweep-requires
-    enum-told
-    returns
     enum-known-v
-    returns-2
+    returns
     enum-known-d
     loop-less
     loop-again
-    returns-3)
+    returns-2)

@@ -3,7 +3,7 @@ use mathlib.Core.Path.{sym, _∙_}
 use native.Mathlib.Omega.{arith}
 use lib.Count.{trailing-le}
 use borrow.Author.Needs.{needs}
-use Rattle.exact_test.proofs.SweepingASegment.{Words, Marks, start, word-inside, fewer-words, start-word, end-word, end, entry-inside, fewer-marks, count-fits, found-large, found-late, next}
+use Rattle.exact_test.proofs.SweepingASegment.{Words, Marks, start, word-inside, fewer-words, start-word, end-word, end, entry-inside, fewer-marks, sums-fit, found-late, next}
 use Rattle.exact_test.proofs.segments.sweep.Statement.{statement}
 use Rattle.exact_test.proofs.segments.sweep.Tie as tie
 
@@ -58,59 +58,43 @@ cast-j c = omega (arith, trailing-le 64 (c .before .loop2 .w))
 add-j : tie.Need-add-j Inv-loop2 μ-loop2 Inv-loop μ-loop
 add-j c = omega (arith, entry-inside (c .before .loop2 .inv) (c .loop2-test .taken))
 
-mul-add : tie.Need-mul-add Inv-loop2 μ-loop2 Inv-loop μ-loop
-mul-add c = omega (arith, entry-inside (c .before .loop2 .inv) (c .loop2-test .taken))
+mul-d : tie.Need-mul-d Inv-loop2 μ-loop2 Inv-loop μ-loop
+mul-d c = omega (arith, entry-inside (c .before .loop2 .inv) (c .loop2-test .taken))
 
-element-copy-out-add : tie.Need-element-copy-out-add Inv-loop2 μ-loop2 Inv-loop μ-loop
-element-copy-out-add c = omega (arith, entry-inside (c .before .loop2 .inv) (c .loop2-test .taken))
+element-copy-out-d : tie.Need-element-copy-out-d Inv-loop2 μ-loop2 Inv-loop μ-loop
+element-copy-out-d c = omega (arith, entry-inside (c .before .loop2 .inv) (c .loop2-test .taken))
 
-add-requires : tie.Need-add-requires Inv-loop2 μ-loop2 Inv-loop μ-loop
-add-requires c κs = search needs
+add-d : tie.Need-add-d Inv-loop2 μ-loop2 Inv-loop μ-loop
+add-d c = omega (arith, sums-fit (c .before .before .loop2 .inv) (c .before .loop2-test .taken) .0)
 
-enum-known-sum : tie.Need-enum-known-sum Inv-loop2 μ-loop2 Inv-loop μ-loop
-enum-known-sum c = search needs
+mul-due : tie.Need-mul-due Inv-loop2 μ-loop2 Inv-loop μ-loop
+mul-due c = omega (arith, entry-inside (c .before .before .loop2 .inv) (c .before .loop2-test .taken))
 
-enum-told : tie.Need-enum-told Inv-loop2 μ-loop2 Inv-loop μ-loop
-enum-told c = search needs
+element-write-due : tie.Need-element-write-due Inv-loop2 μ-loop2 Inv-loop μ-loop
+element-write-due c = omega (arith, entry-inside (c .before .before .loop2 .inv) (c .before .loop2-test .taken))
+
+add-c : tie.Need-add-c Inv-loop2 μ-loop2 Inv-loop μ-loop
+add-c c = omega (arith, sums-fit (c .before .before .loop2 .inv) (c .before .loop2-test .taken) .1)
+
+add-at : tie.Need-add-at Inv-loop2 μ-loop2 Inv-loop μ-loop
+add-at c = omega (arith, entry-inside (c .before .before .loop2 .inv) (c .before .loop2-test .taken))
 
 returns : tie.Need-returns Inv-loop2 μ-loop2 Inv-loop μ-loop
 returns c =
-    let t = c .before .before .before .before in
-    let sum = sym (c .enum-told .given .1) ∙ c .before .before .add .ensures in
-    (found-large (t .before .loop2 .inv) (t .loop2-test .taken) sum ∙ sym (t .before .before .before .before .loop .inv .run .same), tt)
-
-mul-due : tie.Need-mul-due Inv-loop2 μ-loop2 Inv-loop μ-loop
-mul-due c = let t = c .before .before .before .before .before in omega (arith, entry-inside (t .before .loop2 .inv) (t .loop2-test .taken))
-
-element-write-due : tie.Need-element-write-due Inv-loop2 μ-loop2 Inv-loop μ-loop
-element-write-due c = let t = c .before .before .before .before .before in omega (arith, entry-inside (t .before .loop2 .inv) (t .loop2-test .taken))
-
-add-c : tie.Need-add-c Inv-loop2 μ-loop2 Inv-loop μ-loop
-add-c c = let t = c .before .before .before .before .before in omega (arith, count-fits (t .before .loop2 .inv) (t .loop2-test .taken))
-
-add-at : tie.Need-add-at Inv-loop2 μ-loop2 Inv-loop μ-loop
-add-at c = let t = c .before .before .before .before .before in omega (arith, entry-inside (t .before .loop2 .inv) (t .loop2-test .taken))
-
-returns-2 : tie.Need-returns-2 Inv-loop2 μ-loop2 Inv-loop μ-loop
-returns-2 c =
-    let t = c .before .before .before .before .before .before in
-    let sum = sym (c .before .before .sum .given .1) ∙ c .before .before .before .before .add .ensures in
-    (found-late (t .before .loop2 .inv) (t .loop2-test .taken) sum (c .if1 .taken) ∙ sym (t .before .before .before .before .loop .inv .run .same), tt)
+    let t = c .before .before in
+    (found-late (t .before .loop2 .inv) (t .loop2-test .taken) (c .if1 .taken) ∙ sym (t .before .before .before .before .loop .inv .run .same), tt)
 
 sub-w : tie.Need-sub-w Inv-loop2 μ-loop2 Inv-loop μ-loop
 sub-w c = search needs
 
 loop2-less : tie.Need-loop2-less Inv-loop2 μ-loop2 Inv-loop μ-loop
-loop2-less c = let t = c .before .before .before .before .before .before in fewer-marks (t .before .loop2 .inv) (t .loop2-test .taken)
+loop2-less c = let t = c .before .before in fewer-marks (t .before .loop2 .inv) (t .loop2-test .taken)
 
 loop2-again : tie.Need-loop2-again Inv-loop2 μ-loop2 Inv-loop μ-loop
-loop2-again c =
-    let t = c .before .before .before .before .before .before in
-    let sum = sym (c .before .before .sum .given .1) ∙ c .before .before .before .before .add .ensures in
-    next (t .before .loop2 .inv) (t .loop2-test .taken) sum (c .if1 .left)
+loop2-again c = let t = c .before .before in next (t .before .loop2 .inv) (t .loop2-test .taken) (c .if1 .left)
 
-returns-3 : tie.Need-returns-3 Inv-loop2 μ-loop2 Inv-loop μ-loop
-returns-3 c = end (c .before .loop .inv) (c .loop-test .left)
+returns-2 : tie.Need-returns-2 Inv-loop2 μ-loop2 Inv-loop μ-loop
+returns-2 c = end (c .before .loop .inv) (c .loop-test .left)
 
 pub sweep-spec : {M : Type 1} → statement M
 sweep-spec =
@@ -133,18 +117,15 @@ sweep-spec =
     mul-j
     cast-j
     add-j
-    mul-add
-    element-copy-out-add
-    add-requires
-    enum-known-sum
-    enum-told
-    returns
+    mul-d
+    element-copy-out-d
+    add-d
     mul-due
     element-write-due
     add-c
     add-at
-    returns-2
+    returns
     sub-w
     loop2-less
     loop2-again
-    returns-3)
+    returns-2)

@@ -9,7 +9,7 @@ use Rattle.theory.specs.Approximation.{budget}
 use Rattle.theory.proofs.PlaceLaws.{legal-places}
 use Rattle.places.proofs.ColumnLaws.{Laid, laid}
 use Rattle.load.proofs.LoadedLaws.{demand-at}
-use Rattle.superposition_test.proofs.WalkLaws.{Walking, Turning, start, none-left, movable, turn, too-large, failing, again}
+use Rattle.superposition_test.proofs.WalkLaws.{Walking, Turning, start, none-left, movable, turn, sum-fits, top-fits, failing, again}
 use Rattle.superposition_test.proofs.walk.walk.Statement.{statement}
 use Rattle.superposition_test.proofs.walk.walk.Tie as tie
 
@@ -68,59 +68,44 @@ turned c =
     let a = c .before .before .before .before .before .before in
     turn _ _ _ (a .before .before .before .loop .inv) _ (a .before .least .ensures) (omega (arith, a .if1 .left)) (c .move-on .ensures)
 
-sub-add : tie.Need-sub-add Inv-loop μ-loop
-sub-add c = omega (arith, turned c .later)
+sub-scaled : tie.Need-sub-scaled Inv-loop μ-loop
+sub-scaled c = omega (arith, turned c .later)
 
-mul-add : tie.Need-mul-add Inv-loop μ-loop
-mul-add c = omega (arith, turned c .line-small)
+mul-scaled : tie.Need-mul-scaled Inv-loop μ-loop
+mul-scaled c = omega (arith, sum-fits _ _ _ (turned c))
 
-mul-add-2 : tie.Need-mul-add-2 Inv-loop μ-loop
-mul-add-2 c = omega (arith, turned c .due-small)
+mul-scaled-2 : tie.Need-mul-scaled-2 Inv-loop μ-loop
+mul-scaled-2 c = omega (arith, sum-fits _ _ _ (turned (c .before)))
 
-add-add : tie.Need-add-add Inv-loop μ-loop
-add-add c = omega (arith, turned c .line-small, turned c .due-small)
+add-scaled : tie.Need-add-scaled Inv-loop μ-loop
+add-scaled c = omega (arith, sum-fits _ _ _ (turned (c .before)))
 
-add-requires : tie.Need-add-requires Inv-loop μ-loop
-add-requires c κs = search needs
-
-enum-known-sum : tie.Need-enum-known-sum Inv-loop μ-loop
-enum-known-sum c = search needs
-
-enum-told : tie.Need-enum-told Inv-loop μ-loop
-enum-told c = search needs
-
-returns-2 : tie.Need-returns-2 Inv-loop μ-loop
-returns-2 c =
-    too-large _ _ _ (turned (c .before .before .before)) (sym (c .enum-told .given .1) ∙ c .before .before .add .ensures)
+add-scaled-2 : tie.Need-add-scaled-2 Inv-loop μ-loop
+add-scaled-2 c = omega (arith, sum-fits _ _ _ (turned (c .before)))
 
 add-count : tie.Need-add-count Inv-loop μ-loop
-add-count c = let w = turned (c .before .before .before .before) in omega (arith, w .few, w .later, w .low, w .due-few)
+add-count c = let w = turned (c .before) in omega (arith, w .few, w .later, w .numbers .length)
 
 mul-if2 : tie.Need-mul-if2 Inv-loop μ-loop
-mul-if2 c = omega (arith, turned (c .before .before .before .before) .top-small)
+mul-if2 c = omega (arith, top-fits _ _ _ (turned (c .before)))
 
 demand-at-requires : tie.Need-demand-at-requires Inv-loop μ-loop
 demand-at-requires c κs = search needs
 
-returns-3 : tie.Need-returns-3 Inv-loop μ-loop
-returns-3 c =
-    let s = c .before .before .before in
-    let w = turned (s .before .before .before) in
-    rw (c .demand-at .ensures ∙ sym (demand-at _ _ (w .fit .legal) (omega (arith, w .low))))
-    (failing _ _ _ (turned (s .before .before .before)) (sym (s .sum .given .1) ∙ s .before .before .add .ensures)
-    (omega (arith, c .before .if2 .taken)))
+returns-2 : tie.Need-returns-2 Inv-loop μ-loop
+returns-2 c =
+    let w = turned (c .before .before .before) in
+    rw (c .demand-at .ensures ∙ sym (demand-at _ _ (w .fit .legal) (omega (arith, w .numbers .length))))
+    (failing _ _ _ w (omega (arith, c .before .if2 .taken)))
 
 add-slope : tie.Need-add-slope Inv-loop μ-loop
-add-slope c = omega (arith, turned (c .before .before .before .before .before .before) .slope-small)
+add-slope c = omega (arith, turned (c .before .before .before) .slope-small)
 
 loop-less : tie.Need-loop-less Inv-loop μ-loop
-loop-less c = omega (arith, turned (c .before .before .before .before .before .before) .within)
+loop-less c = omega (arith, turned (c .before .before .before) .within)
 
 loop-again : tie.Need-loop-again Inv-loop μ-loop
-loop-again c =
-    let s = c .before .before .before in
-    again _ _ _ (turned (s .before .before .before)) (sym (s .sum .given .1) ∙ s .before .before .add .ensures)
-    (omega (arith, c .before .if2 .left))
+loop-again c = again _ _ _ (turned (c .before .before .before)) (omega (arith, c .before .if2 .left))
 
 pub walk-spec : {M : Type 1} → statement M
 walk-spec =
@@ -134,18 +119,15 @@ walk-spec =
     least-requires
     returns
     move-on-requires
-    sub-add
-    mul-add
-    mul-add-2
-    add-add
-    add-requires
-    enum-known-sum
-    enum-told
-    returns-2
+    sub-scaled
+    mul-scaled
+    mul-scaled-2
+    add-scaled
+    add-scaled-2
     add-count
     mul-if2
     demand-at-requires
-    returns-3
+    returns-2
     add-slope
     loop-less
     loop-again)
