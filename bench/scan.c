@@ -24,8 +24,7 @@ static uint32_t compare_lengths(const struct task_set *set, uint64_t bound, uint
         uint64_t at = least(dates.next, set->count);
         if (at >= bound)
             return put_verdict(answer, 0, 0, 0, count);
-        if (__builtin_add_overflow(demand, move_on(&dates, set->count, at), &demand))
-            return put_refusal(answer, 11, 0);
+        demand += move_on(&dates, set->count, at);
         count++;
         if (at < demand)
             return put_verdict(answer, 1, at, demand, count);

@@ -13,7 +13,7 @@ struct run {
     uint64_t interval, demand, count;
 };
 
-enum swept { CLEAN, LATE, TOO_LARGE };
+enum swept { CLEAN, LATE };
 
 /* Adds the dates of the n places below base + length, and moves the places on; *low is the least next length. */
 static uint64_t fill(struct segment *s, struct dates *dates, size_t n, uint64_t base, uint64_t length, uint64_t *low)
@@ -54,8 +54,7 @@ static enum swept sweep(struct segment *s, uint64_t seen, uint64_t base, struct 
         s->marks[k] = 0;
         do {
             uint64_t j = k * 64 + __builtin_ctzll(word);
-            if (__builtin_add_overflow(demand, s->due[j], &demand))
-                return TOO_LARGE;
+            demand += s->due[j];
             s->due[j] = 0;
             count++;
             if (base + j < demand) {
@@ -82,10 +81,7 @@ static uint32_t compare_lengths(const struct task_set *set, uint64_t bound, uint
         uint64_t low;
         uint64_t length = bound - base < TICKS ? bound - base : TICKS;
         uint64_t seen = fill(&segment, &dates, set->count, base, length, &low);
-        enum swept swept = sweep(&segment, seen, base, &run);
-        if (swept == TOO_LARGE)
-            return put_refusal(answer, 11, 0);
-        if (swept == LATE)
+        if (sweep(&segment, seen, base, &run) == LATE)
             return put_verdict(answer, 1, run.interval, run.demand, run.count);
         base = low;
     }

@@ -50,10 +50,8 @@ static uint32_t compare_lengths(const struct task_set *set, uint32_t k, uint64_t
         uint64_t at = least(dates.next, set->count);
         if (at == LARGEST)
             return put_verdict(answer, 0, 0, 0, count);
-        uint64_t grown = slope * (at - before);
-        grown += h * move_on(&dates, &limits, set->count, at, &slope);
-        if (__builtin_add_overflow(scaled, grown, &scaled))
-            return put_refusal(answer, 11, 0);
+        scaled += slope * (at - before);
+        scaled += h * move_on(&dates, &limits, set->count, at, &slope);
         count++;
         if (h * at < scaled)
             return put_verdict(answer, 3, at, demand_at(set, at), count);

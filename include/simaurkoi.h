@@ -66,11 +66,10 @@
                                                            brings it there
         9  k is not from 1 to 255                          0
        10  out has less room than the written set takes    no place in the set: the bytes needed
-       11  a sum that the test needs is above 64 bits;     0
-           no set is known that gets this
+       11  is not given
 
    9 is looked for first. Then the records are checked in their order, each for 1 to 7 in this order,
-   and the first refused record decides. Then come 8 and 11 of a test, or 10 of rewriting.
+   and the first refused record decides. Then comes 8 of a test, or 10 of rewriting.
 
    WHAT A PASS ASSUMES. Proved is that the demand exceeds no length. To mean that EDF keeps every
    deadline, it takes this as well:
@@ -103,7 +102,7 @@
    made. So several threads may call at once, each with an out and an answer of its own; they may
    share a set.
    Stack: allow 52 KB for simaurkoi_exact, 20 KB for simaurkoi_superposition, 14 KB for
-   simaurkoi_rewrite. The frames take 49,392, 18,176 and 12,976 bytes.
+   simaurkoi_rewrite. The frames take 49,408, 18,176 and 12,976 bytes.
    Time: the exact test compares fewer than 1,107,296,256 lengths. Most sets have far fewer; the
    longest runs take seconds. Superposition compares at most k lengths for each record of kind 1 and
    one for each of kind 2, which takes milliseconds; rewriting takes microseconds. */
@@ -135,12 +134,12 @@
 extern "C" {
 #endif
 
-/* The exact test of the set in these len bytes. Verdicts 0, 1 and 2; refusals 1 to 8 and 11. */
+/* The exact test of the set in these len bytes. Verdicts 0, 1 and 2; refusals 1 to 8. */
 uint32_t simaurkoi_exact(const uint8_t *set, size_t len, uint64_t *answer, size_t places);
 
 /* The superposition test: it takes the first k due dates of each record of kind 1 exactly, and a
    straight line for those after. If it passes the set, the exact test does. If it answers 3, then
-   demand times k + 1 is more than interval times k. Verdicts 0, 2 and 3; refusals 1 to 9 and 11. */
+   demand times k + 1 is more than interval times k. Verdicts 0, 2 and 3; refusals 1 to 9. */
 uint32_t simaurkoi_superposition(const uint8_t *set, size_t len, uint32_t k, uint64_t *answer,
                                  size_t places);
 

@@ -12,7 +12,7 @@ struct interface {
     uint32_t (*rewrite)(const uint8_t *set, size_t len, uint8_t *out, size_t room, uint64_t *answer, size_t places);
 };
 
-enum { REFUSALS = 12, VERDICTS = 4 };
+enum { REFUSALS = 11, VERDICTS = 4 };
 
 /* What the calls came to. Unless it is quiet, the first few differences are printed. */
 struct tally {

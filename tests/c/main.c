@@ -6,8 +6,6 @@
 #include "simaurkoi.h"
 #include "text.h"
 
-enum { LAST_REACHED_REFUSAL = 10 };
-
 static const struct interface archive = {simaurkoi_exact, simaurkoi_superposition, simaurkoi_rewrite};
 
 /* Whether it has any input. */
@@ -52,13 +50,13 @@ static void put_tally(const struct tally *tally)
     put_text("\n");
 }
 
-/* Every verdict and every refusal but 11, which no input is known to get. */
+/* Every verdict and every refusal. */
 static int all_reached(const struct tally *tally)
 {
     int reached = 1;
     for (int i = 0; i < VERDICTS; i++)
         reached = reached && tally->verdicts[i] > 0;
-    for (int i = 1; i <= LAST_REACHED_REFUSAL; i++)
+    for (int i = 1; i < REFUSALS; i++)
         reached = reached && tally->refusals[i] > 0;
     if (!reached)
         put_text("NOT REACHED: some verdict or refusal never came up\n");

@@ -10,7 +10,7 @@
 enum { PERIODIC = 1, SINGLE = 2, PERIODIC_BODY = 16, SINGLE_BODY = 12 };
 enum { PLACES = 128, SET_BYTES = PLACES * (1 + PERIODIC_BODY) };
 
-/* Wide enough for every sum, so that whether one is above 64 bits is seen and not assumed. */
+/* Wide enough for every sum, whatever the limits: that 64 bits are enough is not taken over from the crates. */
 __extension__ typedef unsigned __int128 wide;
 
 struct element {
@@ -34,11 +34,6 @@ static struct answer refused(uint64_t number, uint64_t place)
 static struct answer given(uint64_t verdict, uint64_t interval, uint64_t demand, uint64_t count)
 {
     return (struct answer){0, 0, verdict, interval, demand, count};
-}
-
-static int fits(wide number)
-{
-    return number <= UINT64_MAX;
 }
 
 /* ---- The set as bytes */
@@ -157,7 +152,7 @@ static uint64_t common_divisor(uint64_t a, uint64_t b)
     return a;
 }
 
-/* Reads the set and finds F, H and Q; refuses by 1 to 8, and by 11 for Q. */
+/* Reads the set and finds F, H and Q; refuses by 1 to 8. */
 static struct answer prepare(const uint8_t *bytes, size_t size, struct set *set)
 {
     struct answer check = read_set(bytes, size, set);
@@ -178,7 +173,7 @@ static struct answer prepare(const uint8_t *bytes, size_t size, struct set *set)
     for (size_t i = 0; i < set->count; i++)
         if (set->table[i].kind == PERIODIC)
             set->Q += (wide)set->table[i].cost * (set->H / set->table[i].period);
-    return fits(set->Q) ? given(0, 0, 0, 0) : refused(11, 0);
+    return given(0, 0, 0, 0);
 }
 
 static wide demand_of(const struct element *e, uint64_t length)
@@ -225,12 +220,10 @@ static uint64_t next_length(const struct set *set, uint64_t length, uint64_t dat
 
 static struct answer load_above_one(const struct set *set)
 {
-    for (wide length = set->F;; length += set->H) {
-        wide due = fits(length) ? demand(set, (uint64_t)length) : 0;
-        if (!fits(length) || !fits(due))
-            return refused(11, 0);
+    for (uint64_t length = set->F;; length += set->H) {
+        wide due = demand(set, length);
         if (due > length)
-            return given(2, (uint64_t)length, (uint64_t)due, 0);
+            return given(2, length, (uint64_t)due, 0);
     }
 }
 
@@ -246,8 +239,6 @@ struct answer oracle_exact(const uint8_t *bytes, size_t size)
     while ((length = next_length(&set, length, ALL_DATES)) < set.F + set.H) {
         wide due = demand(&set, length);
         count++;
-        if (!fits(due))
-            return refused(11, 0);
         if (due > length)
             return given(1, length, (uint64_t)due, count);
     }
@@ -281,14 +272,10 @@ struct answer oracle_superposition(const uint8_t *bytes, size_t size, uint32_t k
     if (set.Q > set.H)
         return load_above_one(&set);
     while ((length = next_length(&set, length, k)) != NONE_LEFT) {
-        wide due = demand(&set, length);
         wide scaled = scaled_demand(&set, length, k);
-        wide limit = (wide)set.H * length;
         count++;
-        if (!fits(due) || !fits(scaled) || !fits(limit))
-            return refused(11, 0);
-        if (scaled > limit)
-            return given(3, length, (uint64_t)due, count);
+        if (scaled > (wide)set.H * length)
+            return given(3, length, (uint64_t)demand(&set, length), count);
     }
     return given(0, 0, 0, count);
 }
