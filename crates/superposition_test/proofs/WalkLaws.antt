@@ -5,6 +5,7 @@ use mathlib.Core.Bool.{Bool, true, false, cond}
 use mathlib.Core.List.{List}
 use mathlib.Core.Logic.{⊎-elim}
 use native.Mathlib.Omega.{arith}
+use native.Mathlib.Nat.{mul-le-mul-left}
 use borrow.Author.Tests.{lt-ltb, le-ltb}
 use lib.Dec.{ltb}
 use lib.ListN.{length}
@@ -23,6 +24,7 @@ use Rattle.model.proofs.OverLaws.{each-map, sum-le, sum-zero}
 use Rattle.model.proofs.ElementLaws.{Legal, all-legal}
 use Rattle.theory.specs.Approximation.{budget}
 use Rattle.theory.specs.Growth as growth
+use Rattle.theory.proofs.HyperperiodIsLeast.{hyperperiod-is-positive}
 use Rattle.theory.proofs.ScaledDemandGrows.{scaled-grows, slope-grows, scaled-rises-along}
 use Rattle.theory.proofs.SuperpositionAnswers.{visited-below}
 use Rattle.theory.proofs.SuperpositionIsSafe.{scaled-starts}
@@ -257,6 +259,11 @@ module _ (t : TaskSet) (k h : ℕ) where
     -- the sum that is compared, with each of its parts, and what it is compared with
     pub sum-fits : scaled + (slope * (at - before) + due * h) < 2 ^ 63
     sum-fits = omega (arith, w .sum, w .numbers .scaled-demand)
+
+    pub due-fits : due < 2 ^ 63
+    due-fits =
+        let one : 1 ≤ h = omega (arith, w .fit .hyperperiod, hyperperiod-is-positive (counted t) (w .set .all)) in
+        omega (arith, sum-fits, mul-le-mul-left due one)
 
     pub top-fits : h * at ≤ 2 ^ 62
     top-fits = omega (arith, top-is, w .numbers .scaled-length)

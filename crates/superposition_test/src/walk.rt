@@ -137,7 +137,8 @@ pub(crate) fn walk(set: TaskSet, k: u64, h: u64) -> Verdict
             return Verdict::Passes { count };
         }
         let moved = move_on(&mut next, &step, &cost, &last, &rise, set.count, at);
-        scaled = scaled + (slope * (at - before) + moved.cost * h);
+        let due = moved.cost;
+        scaled = scaled + (slope * (at - before) + due * h);
         count = count + 1;
         if h * at < scaled {
             let demand = demand_at(set, at);

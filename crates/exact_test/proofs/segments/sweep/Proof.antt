@@ -82,7 +82,7 @@ add-at c = omega (arith, entry-inside (c .before .before .loop2 .inv) (c .before
 returns : tie.Need-returns Inv-loop2 μ-loop2 Inv-loop μ-loop
 returns c =
     let t = c .before .before in
-    (found-late (t .before .loop2 .inv) (t .loop2-test .taken) (c .if1 .taken) ∙ sym (t .before .before .before .before .loop .inv .run .same), tt)
+    (found-late (t .before .loop2 .inv) (t .loop2-test .taken) (omega (arith, c .if1 .taken)) ∙ sym (t .before .before .before .before .loop .inv .run .same), tt)
 
 sub-w : tie.Need-sub-w Inv-loop2 μ-loop2 Inv-loop μ-loop
 sub-w c = search needs

@@ -9,7 +9,7 @@ use Rattle.theory.specs.Approximation.{budget}
 use Rattle.theory.proofs.PlaceLaws.{legal-places}
 use Rattle.places.proofs.ColumnLaws.{Laid, laid}
 use Rattle.load.proofs.LoadedLaws.{demand-at}
-use Rattle.superposition_test.proofs.WalkLaws.{Walking, Turning, start, none-left, movable, turn, sum-fits, top-fits, failing, again}
+use Rattle.superposition_test.proofs.WalkLaws.{Walking, Turning, start, none-left, movable, turn, sum-fits, due-fits, top-fits, failing, again}
 use Rattle.superposition_test.proofs.walk.walk.Statement.{statement}
 use Rattle.superposition_test.proofs.walk.walk.Tie as tie
 
@@ -75,37 +75,37 @@ mul-scaled : tie.Need-mul-scaled Inv-loop μ-loop
 mul-scaled c = omega (arith, sum-fits _ _ _ (turned c))
 
 mul-scaled-2 : tie.Need-mul-scaled-2 Inv-loop μ-loop
-mul-scaled-2 c = omega (arith, sum-fits _ _ _ (turned (c .before)))
+mul-scaled-2 c = omega (arith, sum-fits _ _ _ (turned c))
 
 add-scaled : tie.Need-add-scaled Inv-loop μ-loop
-add-scaled c = omega (arith, sum-fits _ _ _ (turned (c .before)))
+add-scaled c = omega (arith, sum-fits _ _ _ (turned c))
 
 add-scaled-2 : tie.Need-add-scaled-2 Inv-loop μ-loop
-add-scaled-2 c = omega (arith, sum-fits _ _ _ (turned (c .before)))
+add-scaled-2 c = omega (arith, sum-fits _ _ _ (turned c))
 
 add-count : tie.Need-add-count Inv-loop μ-loop
-add-count c = let w = turned (c .before) in omega (arith, w .few, w .later, w .numbers .length)
+add-count c = let w = turned c in omega (arith, w .few, w .later, w .numbers .length, due-fits _ _ _ w)
 
 mul-if2 : tie.Need-mul-if2 Inv-loop μ-loop
-mul-if2 c = omega (arith, top-fits _ _ _ (turned (c .before)))
+mul-if2 c = omega (arith, top-fits _ _ _ (turned c))
 
 demand-at-requires : tie.Need-demand-at-requires Inv-loop μ-loop
 demand-at-requires c κs = search needs
 
 returns-2 : tie.Need-returns-2 Inv-loop μ-loop
 returns-2 c =
-    let w = turned (c .before .before .before) in
+    let w = turned (c .before .before) in
     rw (c .demand-at .ensures ∙ sym (demand-at _ _ (w .fit .legal) (omega (arith, w .numbers .length))))
     (failing _ _ _ w (omega (arith, c .before .if2 .taken)))
 
 add-slope : tie.Need-add-slope Inv-loop μ-loop
-add-slope c = omega (arith, turned (c .before .before .before) .slope-small)
+add-slope c = omega (arith, turned (c .before .before) .slope-small)
 
 loop-less : tie.Need-loop-less Inv-loop μ-loop
-loop-less c = omega (arith, turned (c .before .before .before) .within)
+loop-less c = omega (arith, turned (c .before .before) .within)
 
 loop-again : tie.Need-loop-again Inv-loop μ-loop
-loop-again c = again _ _ _ (turned (c .before .before .before)) (omega (arith, c .before .if2 .left))
+loop-again c = again _ _ _ (turned (c .before .before)) (omega (arith, c .before .if2 .left))
 
 pub walk-spec : {M : Type 1} → statement M
 walk-spec =
