@@ -32,7 +32,7 @@ use Rattle.theory.proofs.SuperpositionIsShort.{visits-at-most}
 use Rattle.superposition_test.specs.declared.walk.Moved.{Moved}
 use Rattle.theory.specs.Places.{elementAt}
 use Rattle.places.proofs.ColumnLaws.{Laid}
-use Rattle.theory.specs.Sizes.{mostLength, SuperpositionFits}
+use Rattle.theory.specs.Sizes.{SuperpositionFits}
 use Rattle.superposition_test.specs.Walk.{none, Walkable, Least, Limited, Movable, MovedOn}
 use Rattle.theory.proofs.PlaceLaws.{LegalPlaces}
 use Rattle.theory.proofs.EverySumFits.{every-sum-fits}
@@ -62,7 +62,6 @@ module _ (t : TaskSet) (k h : ℕ) where
     pub passed : Upto lengths (suc before)
     pub counts : count ≡ howMany (isVisited k (counted t)) (suc before)
     pub few : count ≤ before
-    pub low : before ≤ mostLength
 
   -- THE START
   module _ (p : LegalPlaces t) (w : Walkable t k h) where
@@ -100,7 +99,6 @@ module _ (t : TaskSet) (k h : ℕ) where
           let g = howMany-gap (isVisited k (counted t)) 0 1 (λ J m n. let z : J ≡ 0 = omega arith in rw z zero-unvisited) in
           sym (g ∙ howMany-zero (isVisited k (counted t)));
       few = omega arith;
-      low = omega arith;
     }
 
   abbrev verdict : Verdict
@@ -294,5 +292,4 @@ module _ (t : TaskSet) (k h : ℕ) where
       passed = upto-more lengths at (w .passed) (le-ltb (H (counted t) * at) (HD' k (counted t) at) (omega (arith, w .sum, top-is)));
       counts = one-more;
       few = omega (arith, w .few, w .later);
-      low = omega (arith, w .numbers .length);
     }

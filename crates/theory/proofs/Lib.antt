@@ -19,6 +19,7 @@ pub mod SuperpositionIsSafe
 pub mod SuperpositionIsClose
 pub mod SuperpositionIsShort
 pub mod EverySumFits
+pub mod BoundsAreTight
 pub mod TakenSetsAreLegal
 pub mod NothingPastTheCount
 pub mod StarredSums

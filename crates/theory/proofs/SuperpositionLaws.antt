@@ -41,14 +41,19 @@ module _ (k h : ℕ) (l : 1 ≤ k) where
   dues-past : (p x : ℕ) → 1 ≤ p → ((k - 1) * p + x) / p + 1 ≡ k + x / p
   dues-past p x r = let n = mul-add-div-right r (k - 1) x in omega arith
 
-  line-above : (q : Period) (x : ℕ) → Runs q → Divides q h → h * dues q (exactPart q k + x) ≤ line q x
-  unfolding line
-  line-above Once x r d = omega arith
-  line-above (Every p) x r d =
+  -- rounding down loses: so many dates are under the line that starts with one
+  dues-under : (q : Period) (x : ℕ) → Divides q h → h * dues q x ≤ x * turns q h + h
+  dues-under Once x d = omega arith
+  dues-under (Every p) x d =
       let c = mul-div-cancel' p d in
       let u = mul-le-mul-left (h / p) (div-mul-le-self x p) in
       let v = ap (λ z. z * (x / p)) c in
-      rw (dues-past p x (r .0)) (omega arith)
+      omega arith
+
+  line-above : (q : Period) (x : ℕ) → Runs q → Divides q h → h * dues q (exactPart q k + x) ≤ line q x
+  unfolding line
+  line-above Once x r d = omega arith
+  line-above (Every p) x r d = rw (dues-past p x (r .0)) (omega (arith, dues-under (Every p) x d))
 
   line-below : (q : Period) (x : ℕ) → Runs q → Divides q h → k * line q x ≤ (k + 1) * (h * dues q (exactPart q k + x))
   unfolding line
@@ -106,14 +111,6 @@ module _ (k h : ℕ) (l : 1 ≤ k) where
       (lt-or-le I (m k e))
 
   -- it is UNDER the line of its load, one cost higher
-  dues-under : (q : Period) (x : ℕ) → Divides q h → h * dues q x ≤ x * turns q h + h
-  dues-under Once x d = omega arith
-  dues-under (Every p) x d =
-      let c = mul-div-cancel' p d in
-      let u = mul-le-mul-left (h / p) (div-mul-le-self x p) in
-      let v = ap (λ z. z * (x / p)) c in
-      omega arith
-
   line-under : (q : Period) (x : ℕ) → Divides q h → line q x ≤ (exactPart q k + x) * turns q h + h
   unfolding line
   line-under Once x d = omega arith
