@@ -14,9 +14,9 @@ pub(crate) fn number_at(bytes: &[u8], at: usize) -> u32
     requires { ⌜ at + 4 ≤ length (now bytes) ⌝ }
     ensures { λ r. ⌜ r ≡ numberAt (now (bytes .entry)) at ⌝ }
 {
-    let a = wide(bytes[at]);
-    let b = wide(bytes[at + 1]);
-    let c = wide(bytes[at + 2]);
-    let d = wide(bytes[at + 3]);
-    a + b * 256 + c * 65536 + d * 16777216
+    let mut value = wide(bytes[at + 3]);
+    value = value * 256 + wide(bytes[at + 2]);
+    value = value * 256 + wide(bytes[at + 1]);
+    value = value * 256 + wide(bytes[at]);
+    value
 }
