@@ -8,16 +8,13 @@ use Rattle.model.specs.declared.answers.Verdict.{Verdict}
 use Rattle.model.specs.declared.answers.Verdict.the-variants.{Passes, Overrun, LoadAboveOne, NotShown}
 use Rattle.model.specs.declared.answers.Values.{Values}
 use Rattle.model.specs.Answers.{values}
-use Rattle.model.specs.Contracts.{FillerSays, EmptySetSays, FirstDueSays, CheckElementSays, CheckSetSays, CheckKSays, ValuesOfSays}
+use Rattle.model.specs.Contracts.{EmptySetSays, FirstDueSays, CheckElementSays, CheckSetSays, CheckKSays, ValuesOfSays}
 use Rattle.model.specs.Promises.{Promises}
 use Rattle.model.proofs.elements
 use Rattle.model.proofs.checks
 use Rattle.model.proofs.answers
 
 -- THE CODE KEEPS THEM: what the checker proved of each function is its contract
-pub filler-keeps : Promises elements.filler.ended elements.filler.Symbol.routine (λ κs given r after. FillerSays r)
-filler-keeps = record { met = λ M. elements.filler.Met.met }
-
 pub empty-set-keeps : Promises elements.empty_set.ended elements.empty_set.Symbol.routine (λ κs given r after. EmptySetSays r)
 empty-set-keeps = record { met = λ M. elements.empty_set.Met.met }
 
@@ -37,9 +34,6 @@ pub values-of-keeps : Promises answers.values_of.ended answers.values_of.Symbol.
 values-of-keeps = record { met = λ M. answers.values_of.Met.met }
 
 -- NO TWO OUTCOMES
-pub filler-is-decided : (a b : Element) → FillerSays a → FillerSays b → a ≡ b
-filler-is-decided a b p q = p ∙ sym q
-
 pub empty-set-is-decided : (a b : TaskSet) → EmptySetSays a → EmptySetSays b → a ≡ b
 empty-set-is-decided a b p q = p ∙ sym q
 

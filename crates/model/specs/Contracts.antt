@@ -6,13 +6,10 @@ use Rattle.model.specs.declared.elements.TaskSet.{TaskSet}
 use Rattle.model.specs.declared.answers.Check.{Check}
 use Rattle.model.specs.declared.answers.Verdict.{Verdict}
 use Rattle.model.specs.declared.answers.Values.{Values}
-use Rattle.model.specs.Elements.{filler, emptySet}
+use Rattle.model.specs.Elements.{emptySet}
 use Rattle.model.specs.Demand.{f}
 use Rattle.model.specs.Answers.{values}
 use Rattle.model.specs.TurnedAway.{checkElement, checkSet, checkK}
-
-abbrev pub FillerSays : Element → Type 0
-FillerSays r = r ≡ filler
 
 abbrev pub EmptySetSays : TaskSet → Type 0
 EmptySetSays r = r ≡ emptySet

@@ -1,5 +1,5 @@
 // Document 01, "Elements": the element, the set in memory, and the limits of its table.
-ghost use Rattle.model.specs.Contracts.{FillerSays, EmptySetSays, FirstDueSays};
+ghost use Rattle.model.specs.Contracts.{EmptySetSays, FirstDueSays};
 
 pub const MOST_PERIOD: u32 = 16_777_216;
 
@@ -33,24 +33,20 @@ pub struct TaskSet {
     pub table: [Element; PLACES],
 }
 
-// What stands past the count: a single event of all zeros.
-pub fn filler() -> Element
-    ensures { λ r. ⌜ FillerSays r ⌝ }
-{
-    Element {
-        period: Period::Once,
-        offset: 0,
-        deadline: 0,
-        cost: 0,
-    }
-}
+// What stands past the count: a single event of all zeros. A table of a constant is cleared where it lies; of a call's result it would be made first, then copied.
+pub const FILLER: Element = Element {
+    period: Period::Once,
+    offset: 0,
+    deadline: 0,
+    cost: 0,
+};
 
 pub fn empty_set() -> TaskSet
     ensures { λ r. ⌜ EmptySetSays r ⌝ }
 {
     TaskSet {
         count: 0,
-        table: [filler(); PLACES],
+        table: [FILLER; PLACES],
     }
 }
 

@@ -1,7 +1,7 @@
 -- Laws of specs/Format. Assumes nothing.
-use Prim.Native.Nat.{ℕ, _≤_}
+use Prim.Native.Nat.{ℕ, _-_, _≤_}
 use mathlib.Core.Path.{_≡_}
-use mathlib.Core.Bool.{true}
+use mathlib.Core.Bool.{true, cond}
 use mathlib.Core.List.{List}
 use mathlib.Core.Logic.{_⊎_, inl, inr, ⊎-elim}
 use native.Mathlib.Omega.{arith}
@@ -38,3 +38,18 @@ module _ (s : List ℕ) where
     pub once-element : elementOf s ≡ elementFrom s Once 1
     unfolding elementOf
     once-element = simp (ne-eqb (kindOf s) 1 n)
+
+  module _ (h : isKind (kindOf s) ≡ true) where
+    two-kinds : (kindOf s ≡ 1) ⊎ ((kindOf s ≡ 1 → ⊥) × (kindOf s ≡ 2))
+    two-kinds = ⊎-elim (λ p. inl p) (λ p. inr ((λ z. omega (arith, p, z)), p)) (known-kinds (kindOf s) h)
+
+    pub known-size : 13 ≤ recordSize s
+    known-size = ⊎-elim (λ one. omega (arith, every-size one)) (λ two. omega (arith, once-size h (two .0))) two-kinds
+
+    -- both kinds in one: the last twelve bytes are offset, deadline and cost
+    pub element-is : elementOf s ≡ elementFrom s (cond (eqb (kindOf s) 2) Once (Every (numberAt s 1))) (recordSize s - 12)
+    element-is =
+        ⊎-elim
+        (λ one. rw (every-element one, every-size one, one))
+        (λ two. rw (once-element h (two .0), once-size h (two .0), two .1))
+        two-kinds

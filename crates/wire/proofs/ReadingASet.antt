@@ -1,11 +1,8 @@
 -- What holds whenever `read_set` turns to the next record, from the first to the end of the bytes. Assumes nothing.
 use Prim.Native.Nat.{ℕ, suc, _+_, _-_, _≤_, _<_}
 use mathlib.Core.Path.{_≡_, refl, ap}
-use mathlib.Core.Logic.{⊎-elim}
 use mathlib.Core.List.{List, [], _∷_, _++_, append-assoc, append-nil}
 use native.Mathlib.Omega.{arith}
-use types.Run.{OneOf}
-use denote.Enum.Declared.{tagOf}
 use lib.ListN.{length, drop, set, replicate, length-append, length-drop}
 use lib.Seq.{set-append-seam}
 use Rattle.model.specs.declared.elements.Element.{Element}
@@ -13,14 +10,11 @@ use Rattle.model.specs.declared.elements.TaskSet.{TaskSet}
 use Rattle.model.specs.declared.answers.Refusal.{Refusal}
 use Rattle.model.specs.declared.answers.Check.the-variants.{Fine, TurnedAway}
 use Rattle.model.specs.Elements.{places, filler, setOf, emptySet}
-use Rattle.wire.specs.declared.records.Record.{Record}
 use Rattle.wire.specs.declared.records.Record.the-variants as answer
-use Rattle.wire.specs.declared.reading.ReadSet.{ReadSet}
 use Rattle.wire.specs.Format.{recordSize, elementOf}
-use Rattle.wire.specs.Reading.{checkOf, readNext, restOf, checkRecords, elementsIn, handedBack, readSet}
-use Rattle.wire.proofs.records.Record.{the-type}
+use Rattle.wire.specs.Reading.{readNext, restOf, checkRecords, elementsIn, handedBack, readSet}
 use Rattle.wire.proofs.FormatLaws.{some-size}
-use Rattle.wire.proofs.ReadingLaws.{IsElement, answer-tells, rest-element, NoElement, no-element, records-end, records-stop, records-next, elements-end, elements-next}
+use Rattle.wire.proofs.ReadingLaws.{IsElement, answer-tells, rest-element, records-end, records-stop, records-next, elements-end, elements-next}
 
 -- the set with one element more, as the stores leave it
 abbrev pub withNext : TaskSet → Element → TaskSet
@@ -53,17 +47,15 @@ module _ (s : List ℕ) (t : TaskSet) (left : List ℕ) (k : Reading s t left) w
   pub count-is : t .count ≡ length (k .got)
   count-is = ap (λ x. x .count) (k .table)
 
-  pub stop :
-      (r : Record) →
-      readNext (places - t .count) (length s - length left) left ≡ r →
-      NoElement r →
-      handedBack (checkOf r) t ≡ readSet s
+  pub at-a-refusal : {r : Refusal} → readNext (places - t .count) (length s - length left) left ≡ answer.Refused r → handedBack (TurnedAway r) t ≡ readSet s
   unfolding readSet
-  stop (answer.Element e) h o = no-element e o
-  stop (answer.Refused r) h o =
+  at-a-refusal h =
       let f = answer-tells (places - length (k .got)) (length s - length left) left (rw count-is at h) in
       rw (k .check, records-stop (length s - length left) left (places - length (k .got)) (f .0) (f .1))
-  stop answer.End h o =
+
+  pub at-the-end : readNext (places - t .count) (length s - length left) left ≡ answer.End → handedBack Fine t ≡ readSet s
+  unfolding readSet
+  at-the-end h =
       let f = answer-tells (places - length (k .got)) (length s - length left) left (rw count-is at h) in
       rw (
         k .check,
@@ -104,11 +96,3 @@ module _ (s : List ℕ) (t : TaskSet) (left : List ℕ) (k : Reading s t left) w
 
     pub less : length (restOf left) < length left
     less = rw (rest-is, length-drop) (omega (arith, found .0 .whole, some-size left))
-
-pub handed-empty : (r : Refusal) (t u : TaskSet) → t ≡ emptySet → _≡_ {A = ReadSet} (record { check = TurnedAway r; set = t }) (handedBack (TurnedAway r) u)
-handed-empty r t u e = rw e
-
-pub handed-whole : (r : Record) (t : TaskSet) → OneOf (0 ∷ 2 ∷ []) (tagOf the-type r) → handedBack Fine t ≡ handedBack (checkOf r) t
-handed-whole (answer.Element e) t o = refl
-handed-whole (answer.Refused r) t o = ⊎-elim (λ (z : _≡_ {A = ℕ} 1 0). absurd (omega arith)) (λ (z : _≡_ {A = ℕ} 1 2). absurd (omega arith)) o
-handed-whole answer.End t o = refl

@@ -97,8 +97,14 @@ module _ (s : List ℕ) where
 abbrev pub NoElement : Record → Type 0
 NoElement r = OneOf (1 ∷ 2 ∷ []) (tagOf the-type r)
 
-pub no-element : {A : Type 0} (e : Element) → NoElement (answer.Element e) → A
+no-element : {A : Type 0} (e : Element) → NoElement (answer.Element e) → A
 no-element e = ⊎-elim (λ (z : _≡_ {A = ℕ} 0 1). absurd (omega arith)) (λ (z : _≡_ {A = ℕ} 0 2). absurd (omega arith))
+
+-- and no refusal either
+pub only-the-end : (r : Record) → NoElement r → OneOf (0 ∷ 2 ∷ []) (tagOf the-type r) → r ≡ answer.End
+only-the-end (answer.Element e) o n = no-element e o
+only-the-end (answer.Refused r) o n = ⊎-elim (λ (z : _≡_ {A = ℕ} 1 0). absurd (omega arith)) (λ (z : _≡_ {A = ℕ} 1 2). absurd (omega arith)) n
+only-the-end answer.End o n = refl
 
 taken-none : (r : Record) (s : List ℕ) → NoElement r → bytesTaken r s ≡ 0
 unfolding bytesTaken

@@ -1,9 +1,11 @@
 // One record: the element, the refusal, or the end; and the unread rest.
 ghost use mathlib.Core.Path.{_≡_};
-ghost use mathlib.Core.Bool.{true};
-ghost use Prim.Native.Nat.{suc, _+_, _≤_};
+ghost use mathlib.Core.Bool.{true, cond};
+ghost use Prim.Native.Nat.{suc, _≤_};
+ghost use lib.Dec.{eqb};
 ghost use lib.ListN.{length};
-ghost use Rattle.wire.specs.Format.{kindOf, isKind, bodySize, recordSize, elementFrom, elementOf};
+ghost use Rattle.model.specs.declared.elements.Period.the-variants.{Once, Every};
+ghost use Rattle.wire.specs.Format.{kindOf, isKind, bodySize, recordSize, elementOf};
 ghost use Rattle.wire.specs.Reading.{answerOf, readNext, IsRest};
 ghost use Rattle.wire.specs.Contracts.{ReadRecordSays};
 use crate::numbers::number_at;
@@ -52,10 +54,25 @@ fn size_of(kind: u8) -> usize
     }
 }
 
-fn element_at(bytes: &[u8], period: Period, at: usize) -> Element
-    requires { ⌜ at + 12 ≤ length (now bytes) ⌝ }
-    ensures { λ r. ⌜ r ≡ elementFrom (now (bytes .entry)) period at ⌝ }
+// A record of either kind has a number behind its kind: the period, or in a single event the offset.
+fn period_of(kind: u8, first: u32) -> Period
+    ensures { λ r. ⌜ r ≡ cond (eqb kind 2) Once (Every first) ⌝ }
 {
+    match kind {
+        2 => Period::Once,
+        _ => Period::Every(first),
+    }
+}
+
+// The element of a record that is there whole. Nothing is read in an arm of its own, so that in compiled code `rest` shares the decision made for the element before.
+fn element_of(bytes: &[u8]) -> Element
+    requires { ⌜ (isKind (kindOf (now bytes)) ≡ true) × (recordSize (now bytes) ≤ length (now bytes)) ⌝ }
+    ensures { λ r. ⌜ r ≡ elementOf (now (bytes .entry)) ⌝ }
+{
+    let kind = bytes[0];
+    let first = number_at(bytes, 1);
+    let period = period_of(kind, first);
+    let at = size_of(kind) - 12;
     let offset = number_at(bytes, at);
     let deadline = number_at(bytes, at + 4);
     let cost = number_at(bytes, at + 8);
@@ -64,19 +81,6 @@ fn element_at(bytes: &[u8], period: Period, at: usize) -> Element
         offset,
         deadline,
         cost,
-    }
-}
-
-// The element of a record that is there whole.
-fn element_of(bytes: &[u8]) -> Element
-    requires { ⌜ (isKind (kindOf (now bytes)) ≡ true) × (recordSize (now bytes) ≤ length (now bytes)) ⌝ }
-    ensures { λ r. ⌜ r ≡ elementOf (now (bytes .entry)) ⌝ }
-{
-    if bytes[0] == 1 {
-        let period = number_at(bytes, 1);
-        element_at(bytes, Period::Every(period), 5)
-    } else {
-        element_at(bytes, Period::Once, 1)
     }
 }
 

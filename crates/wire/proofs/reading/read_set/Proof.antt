@@ -7,7 +7,8 @@ use borrow.Author.Needs.{needs}
 use Rattle.model.specs.Elements.{places}
 use Rattle.wire.specs.declared.records.Record.the-variants as answer
 use Rattle.wire.specs.Reading.{readNext}
-use Rattle.wire.proofs.ReadingASet.{Reading, start, count-is, stop, room, next, less}
+use Rattle.wire.proofs.ReadingLaws.{only-the-end}
+use Rattle.wire.proofs.ReadingASet.{Reading, start, count-is, at-a-refusal, at-the-end, room, next, less}
 use Rattle.wire.proofs.reading.read_set.Statement.{statement}
 use Rattle.wire.proofs.reading.read_set.Tie as tie
 
@@ -35,11 +36,22 @@ read-next-requires c κs = search needs
 enum-known-found : tie.Need-enum-known-found Inv-loop μ-loop
 enum-known-found c = search needs
 
-hand-back-requires : tie.Need-hand-back-requires Inv-loop μ-loop
-hand-back-requires c κs = search needs
+enum-known-found-2 : tie.Need-enum-known-found-2 Inv-loop μ-loop
+enum-known-found-2 c = search needs
 
 returns : tie.Need-returns Inv-loop μ-loop
-returns c = c .hand-back .ensures ∙ stop _ _ _ (c .before .before .before .loop .inv) _ (sym (c .before .before .read-next .ensures)) (c .before .match .keys2)
+returns c =
+    at-the-end _ _ _ (c .before .before .before .loop .inv)
+    (sym (c .before .before .read-next .ensures) ∙ only-the-end _ (c .before .match .keys2) (c .match2 .keys2))
+
+empty-set-requires-2 : tie.Need-empty-set-requires-2 Inv-loop μ-loop
+empty-set-requires-2 c κs = search needs
+
+returns-2 : tie.Need-returns-2 Inv-loop μ-loop
+returns-2 c =
+    rw (c .empty-set2 .ensures)
+    (at-a-refusal _ _ _ (c .before .before .before .before .before .before .loop .inv)
+    (sym (c .before .before .before .before .before .read-next .ensures) ∙ c .before .before .found2 .given .1))
 
 rest-requires : tie.Need-rest-requires Inv-loop μ-loop
 rest-requires c κs = search needs
@@ -79,8 +91,10 @@ read-set-spec =
     sub-read-next
     read-next-requires
     enum-known-found
-    hand-back-requires
+    enum-known-found-2
     returns
+    empty-set-requires-2
+    returns-2
     rest-requires
     mul-e
     element-set-from-e

@@ -1,35 +1,84 @@
 -- `wire::records::element_of` meets its contract. Assumes nothing.
-use mathlib.Core.Path.{_∙_, sym}
+use Prim.Native.Nat.{ℕ, _≤_}
+use mathlib.Core.Path.{_≡_, sym}
 use native.Mathlib.Omega.{arith}
-use Rattle.wire.proofs.FormatLaws.{some-size, every-size, every-element, once-size, once-element}
+use lib.ListN.{length}
+use borrow.Author.Needs.{needs}
+use Rattle.wire.specs.Format.{recordSize}
+use Rattle.wire.proofs.FormatLaws.{known-size, element-is}
 use Rattle.wire.proofs.records.element_of.Statement.{statement}
 use Rattle.wire.proofs.records.element_of.Tie as tie
 
-shared-slice-read-if1 : tie.Need-shared-slice-read-if1
-shared-slice-read-if1 c = omega (arith, some-size (c .before .before .args .bytes .now))
+long : (c : tie.Start) (n : ℕ) → n ≤ 13 → n ≤ length (c .args .bytes .now)
+long c n h = omega (arith, h, known-size (c .args .bytes .now) (c .pre .0), c .pre .1)
+
+shared-slice-read-kind : tie.Need-shared-slice-read-kind
+shared-slice-read-kind c = long (c .before .before) 1 (omega arith)
 
 number-at-requires : tie.Need-number-at-requires
-number-at-requires c κs = omega (arith, every-size (c .before .before .before .args .bytes .now) (c .if1 .taken))
+number-at-requires c κs = long (c .before .before) 5 (omega arith)
 
-element-at-requires : tie.Need-element-at-requires
-element-at-requires c κs = omega (arith, every-size (c .before .before .before .before .args .bytes .now) (c .before .if1 .taken))
+period-of-requires : tie.Need-period-of-requires
+period-of-requires c κs = search needs
 
-element-at-requires-2 : tie.Need-element-at-requires-2
-element-at-requires-2 c κs = omega (arith, once-size (c .before .before .before .args .bytes .now) (c .before .before .before .pre .0) (c .if1 .left))
+size-of-requires : tie.Need-size-of-requires
+size-of-requires c κs = search needs
+
+size : (c : tie.After-size-of) → c .size-of .result ≡ recordSize (c .before .before .before .before .before .args .bytes .now)
+unfolding recordSize
+size c = c .size-of .ensures
+
+record Whole (size length : ℕ) : Type 0 where
+  known : 13 ≤ size
+  within : size ≤ length
+
+whole : (c : tie.After-size-of) → Whole (c .size-of .result) (length (c .before .before .before .before .before .args .bytes .now))
+whole c =
+    let s = c .before .before .before .before .before in
+    record { known = rw (size c) (known-size (s .args .bytes .now) (s .pre .0)); within = rw (size c) (s .pre .1) }
+
+sub-at : tie.Need-sub-at
+sub-at c = omega (arith, whole c .known)
+
+number-at-requires-2 : tie.Need-number-at-requires-2
+number-at-requires-2 c κs = omega (arith, whole c .known, whole c .within)
+
+add-number-at : tie.Need-add-number-at
+add-number-at c = search needs
+
+number-at-requires-3 : tie.Need-number-at-requires-3
+number-at-requires-3 c κs = omega (arith, whole (c .before) .known, whole (c .before) .within)
+
+add-number-at-2 : tie.Need-add-number-at-2
+add-number-at-2 c = search needs
+
+number-at-requires-4 : tie.Need-number-at-requires-4
+number-at-requires-4 c κs = omega (arith, whole (c .before .before) .known, whole (c .before .before) .within)
 
 returns : tie.Need-returns
-returns c = c .element-at .ensures ∙ rw (c .before .number-at .ensures) (sym (every-element _ (c .before .before .if1 .taken)))
-
-returns-2 : tie.Need-returns-2
-returns-2 c = c .element-at2 .ensures ∙ sym (once-element _ (c .before .before .before .before .pre .0) (c .before .if1 .left))
+returns c =
+    rw (
+      c .number-at4 .ensures,
+      c .before .number-at3 .ensures,
+      c .before .before .number-at2 .ensures,
+      size (c .before .before .before),
+      c .before .before .before .before .period-of .ensures,
+      c .before .before .before .before .before .number-at .ensures,
+    )
+    (sym (element-is _ (c .before .before .before .before .before .before .before .before .pre .0)))
 
 pub element-of-spec : {M : Type 1} → statement M
 element-of-spec =
     tie.close
     (tie.spec
-    shared-slice-read-if1
+    shared-slice-read-kind
     number-at-requires
-    element-at-requires
-    element-at-requires-2
-    returns
-    returns-2)
+    period-of-requires
+    size-of-requires
+    sub-at
+    number-at-requires-2
+    add-number-at
+    number-at-requires-3
+    add-number-at-2
+    number-at-requires-4
+    returns)
