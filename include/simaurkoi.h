@@ -101,8 +101,9 @@
    Nothing is allocated, nothing is kept from call to call, nothing is called back, no system call is
    made. So several threads may call at once, each with an out and an answer of its own; they may
    share a set.
-   Stack: allow 52 KB for simaurkoi_exact, 20 KB for simaurkoi_superposition, 14 KB for
-   simaurkoi_rewrite. The frames take 49,408, 18,176 and 12,976 bytes.
+   Stack: the frames take 44,256 bytes for simaurkoi_exact, 13,024 for simaurkoi_superposition and
+   5,216 for simaurkoi_rewrite. What memcpy and memset take comes on top: SIMAURKOI_EXACT_STACK and
+   its sisters leave a kilobyte and more for it.
    Time: the exact test compares fewer than 1,107,296,256 lengths. Most sets have far fewer; the
    longest runs take seconds. Superposition compares at most k lengths for each record of kind 1 and
    one for each of kind 2, which takes milliseconds; rewriting takes microseconds. */
@@ -114,6 +115,11 @@
 
 #define SIMAURKOI_PLACES 6       /* what an answer takes */
 #define SIMAURKOI_SET_BYTES 2176 /* what the largest set takes */
+
+/* The stack to allow for a call, in bytes. */
+#define SIMAURKOI_EXACT_STACK 46080
+#define SIMAURKOI_SUPERPOSITION_STACK 14336
+#define SIMAURKOI_REWRITE_STACK 6144
 
 /* Which place of the answer is which. */
 #define SIMAURKOI_REFUSAL 0

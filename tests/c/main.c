@@ -4,6 +4,7 @@
 #include "groups.h"
 #include "printed.h"
 #include "simaurkoi.h"
+#include "stack.h"
 #include "text.h"
 
 static const struct interface archive = {simaurkoi_exact, simaurkoi_superposition, simaurkoi_rewrite};
@@ -160,6 +161,7 @@ int main(int count, char **words)
     put_tally(&tally);
     fine &= all_reached(&tally);
     fine &= faults_are_seen();
+    fine &= stack_suffices(&archive);
     put_total(&tally);
     if (fine && tally.differ == 0)
         return 0;

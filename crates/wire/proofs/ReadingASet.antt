@@ -11,6 +11,7 @@ use Rattle.model.specs.declared.answers.Refusal.{Refusal}
 use Rattle.model.specs.declared.answers.Check.the-variants.{Fine, TurnedAway}
 use Rattle.model.specs.Elements.{places, filler, setOf, emptySet}
 use Rattle.wire.specs.declared.records.Record.the-variants as answer
+use Rattle.wire.specs.declared.reading.ReadSet.{ReadSet}
 use Rattle.wire.specs.Format.{recordSize, elementOf}
 use Rattle.wire.specs.Reading.{readNext, restOf, checkRecords, elementsIn, handedBack, readSet}
 use Rattle.wire.proofs.FormatLaws.{some-size}
@@ -47,11 +48,16 @@ module _ (s : List ℕ) (t : TaskSet) (left : List ℕ) (k : Reading s t left) w
   pub count-is : t .count ≡ length (k .got)
   count-is = ap (λ x. x .count) (k .table)
 
-  pub at-a-refusal : {r : Refusal} → readNext (places - t .count) (length s - length left) left ≡ answer.Refused r → handedBack (TurnedAway r) t ≡ readSet s
+  pub at-a-refusal :
+      {r : Refusal} →
+      readNext (places - t .count) (length s - length left) left ≡ answer.Refused r →
+      {u : TaskSet} →
+      u ≡ emptySet →
+      _≡_ {A = ReadSet} (record { check = TurnedAway r; set = u }) (readSet s)
   unfolding readSet
-  at-a-refusal h =
+  at-a-refusal h e =
       let f = answer-tells (places - length (k .got)) (length s - length left) left (rw count-is at h) in
-      rw (k .check, records-stop (length s - length left) left (places - length (k .got)) (f .0) (f .1))
+      rw (e, k .check, records-stop (length s - length left) left (places - length (k .got)) (f .0) (f .1))
 
   pub at-the-end : readNext (places - t .count) (length s - length left) left ≡ answer.End → handedBack Fine t ≡ readSet s
   unfolding readSet

@@ -49,9 +49,9 @@ empty-set-requires-2 c κs = search needs
 
 returns-2 : tie.Need-returns-2 Inv-loop μ-loop
 returns-2 c =
-    rw (c .empty-set2 .ensures)
-    (at-a-refusal _ _ _ (c .before .before .before .before .before .before .loop .inv)
-    (sym (c .before .before .before .before .before .read-next .ensures) ∙ c .before .before .found2 .given .1))
+    at-a-refusal _ _ _ (c .before .before .before .before .before .before .loop .inv)
+    (sym (c .before .before .before .before .before .read-next .ensures) ∙ c .before .before .found2 .given .1)
+    (c .empty-set2 .ensures)
 
 rest-requires : tie.Need-rest-requires Inv-loop μ-loop
 rest-requires c κs = search needs
