@@ -98,6 +98,8 @@ function goals(    r) {
     goal("exact: at most 1.1 times the scan, periods million", r, r <= 1.1)
     r = largest("^superposition ", 5, 6)
     goal("superposition: at most 1.2 times C, in every row", r, r <= 1.2)
+    r = largest("^rewrite ", 5, 6)
+    goal("reading and writing: at most 1.5 times C", r, r <= 1.5)
 }
 
 {

@@ -33,7 +33,7 @@ pub struct TaskSet {
     pub table: [Element; PLACES],
 }
 
-// What stands past the count: a single event of all zeros. A table of a constant is cleared where it lies; of a call's result it would be made first, then copied.
+// What stands past the count: a single event of all zeros. Since it is a constant, a table of it is cleared where it lies.
 pub const FILLER: Element = Element {
     period: Period::Once,
     offset: 0,

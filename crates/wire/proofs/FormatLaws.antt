@@ -6,7 +6,7 @@ use mathlib.Core.List.{List}
 use mathlib.Core.Logic.{_⊎_, inl, inr, ⊎-elim}
 use native.Mathlib.Omega.{arith}
 use lib.Dec.{eqb}
-use borrow.Author.Tests.{eq-eqb, ne-eqb, eqb-true}
+use borrow.Author.Tests.{eqb-true}
 use Rattle.model.specs.declared.elements.Period.the-variants.{Once, Every}
 use Rattle.model.proofs.Cases.{or-cases}
 use Rattle.wire.specs.Format.{numberAt, kindOf, isKind, bodySize, recordSize, elementFrom, elementOf}
@@ -24,32 +24,29 @@ module _ (s : List ℕ) where
   module _ (h : kindOf s ≡ 1) where
     pub every-size : recordSize s ≡ 17
     unfolding recordSize bodySize
-    every-size = simp (eq-eqb (kindOf s) 1 h)
+    every-size = rw h
 
     pub every-element : elementOf s ≡ elementFrom s (Every (numberAt s 1)) 5
     unfolding elementOf
-    every-element = simp (eq-eqb (kindOf s) 1 h)
+    every-element = rw h
 
-  module _ (h : isKind (kindOf s) ≡ true) (n : kindOf s ≡ 1 → ⊥) where
+  module _ (h : kindOf s ≡ 2) where
     pub once-size : recordSize s ≡ 13
     unfolding recordSize bodySize
-    once-size = let k = ⊎-elim (λ p. absurd (n p)) (λ p. p) (known-kinds (kindOf s) h) in simp (ne-eqb (kindOf s) 1 n, eq-eqb (kindOf s) 2 k)
+    once-size = rw h
 
     pub once-element : elementOf s ≡ elementFrom s Once 1
     unfolding elementOf
-    once-element = simp (ne-eqb (kindOf s) 1 n)
+    once-element = rw h
 
   module _ (h : isKind (kindOf s) ≡ true) where
-    two-kinds : (kindOf s ≡ 1) ⊎ ((kindOf s ≡ 1 → ⊥) × (kindOf s ≡ 2))
-    two-kinds = ⊎-elim (λ p. inl p) (λ p. inr ((λ z. omega (arith, p, z)), p)) (known-kinds (kindOf s) h)
-
     pub known-size : 13 ≤ recordSize s
-    known-size = ⊎-elim (λ one. omega (arith, every-size one)) (λ two. omega (arith, once-size h (two .0))) two-kinds
+    known-size = ⊎-elim (λ one. omega (arith, every-size one)) (λ two. omega (arith, once-size two)) (known-kinds (kindOf s) h)
 
     -- both kinds in one: the last twelve bytes are offset, deadline and cost
     pub element-is : elementOf s ≡ elementFrom s (cond (eqb (kindOf s) 2) Once (Every (numberAt s 1))) (recordSize s - 12)
     element-is =
         ⊎-elim
         (λ one. rw (every-element one, every-size one, one))
-        (λ two. rw (once-element h (two .0), once-size h (two .0), two .1))
-        two-kinds
+        (λ two. rw (once-element two, once-size two, two))
+        (known-kinds (kindOf s) h)

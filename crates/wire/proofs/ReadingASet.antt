@@ -13,7 +13,7 @@ use Rattle.model.specs.Elements.{places, filler, setOf, emptySet}
 use Rattle.wire.specs.declared.records.Record.the-variants as answer
 use Rattle.wire.specs.declared.reading.ReadSet.{ReadSet}
 use Rattle.wire.specs.Format.{recordSize, elementOf}
-use Rattle.wire.specs.Reading.{readNext, restOf, checkRecords, elementsIn, handedBack, readSet}
+use Rattle.wire.specs.Reading.{readNext, restOf, checkRecords, elementsIn, readSet}
 use Rattle.wire.proofs.FormatLaws.{some-size}
 use Rattle.wire.proofs.ReadingLaws.{IsElement, answer-tells, rest-element, records-end, records-stop, records-next, elements-end, elements-next}
 
@@ -59,7 +59,9 @@ module _ (s : List ℕ) (t : TaskSet) (left : List ℕ) (k : Reading s t left) w
       let f = answer-tells (places - length (k .got)) (length s - length left) left (rw count-is at h) in
       rw (e, k .check, records-stop (length s - length left) left (places - length (k .got)) (f .0) (f .1))
 
-  pub at-the-end : readNext (places - t .count) (length s - length left) left ≡ answer.End → handedBack Fine t ≡ readSet s
+  pub at-the-end :
+      readNext (places - t .count) (length s - length left) left ≡ answer.End →
+      _≡_ {A = ReadSet} (record { check = Fine; set = t }) (readSet s)
   unfolding readSet
   at-the-end h =
       let f = answer-tells (places - length (k .got)) (length s - length left) left (rw count-is at h) in

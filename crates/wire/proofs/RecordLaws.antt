@@ -149,6 +149,5 @@ module _ (s : List ℕ) (h : AllBytes s) where
 
       once : kindOf s ≡ 2 → s ≡ recordOf (elementOf s) ++ drop (recordSize s) s
       once two =
-          let other : kindOf s ≡ 1 → ⊥ = λ one. omega arith in
-          let long : 13 ≤ length s = omega (arith, once-size s (k .kind) other, k .whole) in
-          rw (once-element s (k .kind) other, once-size s (k .kind) other) (kind-cut (omega arith) ∙ rw (two, three-cut 1 long))
+          let long : 13 ≤ length s = omega (arith, once-size s two, k .whole) in
+          rw (once-element s two, once-size s two) (kind-cut (omega arith) ∙ rw (two, three-cut 1 long))

@@ -64,7 +64,7 @@ fn period_of(kind: u8, first: u32) -> Period
     }
 }
 
-// The element of a record that is there whole. Nothing is read in an arm of its own, so that in compiled code `rest` shares the decision made for the element before.
+// The element of a record that is there whole. Both kinds are read in one way, with no branch: so the compiler sees that `rest` asks what was asked for the element, and asks once.
 fn element_of(bytes: &[u8]) -> Element
     requires { ⌜ (isKind (kindOf (now bytes)) ≡ true) × (recordSize (now bytes) ≤ length (now bytes)) ⌝ }
     ensures { λ r. ⌜ r ≡ elementOf (now (bytes .entry)) ⌝ }

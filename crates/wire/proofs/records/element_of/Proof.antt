@@ -1,5 +1,5 @@
 -- `wire::records::element_of` meets its contract. Assumes nothing.
-use Prim.Native.Nat.{ℕ, _≤_}
+use Prim.Native.Nat.{_+_, _-_, _≤_}
 use mathlib.Core.Path.{_≡_, sym}
 use native.Mathlib.Omega.{arith}
 use lib.ListN.{length}
@@ -9,14 +9,14 @@ use Rattle.wire.proofs.FormatLaws.{known-size, element-is}
 use Rattle.wire.proofs.records.element_of.Statement.{statement}
 use Rattle.wire.proofs.records.element_of.Tie as tie
 
-long : (c : tie.Start) (n : ℕ) → n ≤ 13 → n ≤ length (c .args .bytes .now)
-long c n h = omega (arith, h, known-size (c .args .bytes .now) (c .pre .0), c .pre .1)
+known : (c : tie.Start) → 13 ≤ recordSize (c .args .bytes .now)
+known c = known-size (c .args .bytes .now) (c .pre .0)
 
 shared-slice-read-kind : tie.Need-shared-slice-read-kind
-shared-slice-read-kind c = long (c .before .before) 1 (omega arith)
+shared-slice-read-kind c = omega (arith, known (c .before .before), c .before .before .pre .1)
 
 number-at-requires : tie.Need-number-at-requires
-number-at-requires c κs = long (c .before .before) 5 (omega arith)
+number-at-requires c κs = omega (arith, known (c .before .before), c .before .before .pre .1)
 
 period-of-requires : tie.Need-period-of-requires
 period-of-requires c κs = search needs
@@ -28,32 +28,26 @@ size : (c : tie.After-size-of) → c .size-of .result ≡ recordSize (c .before 
 unfolding recordSize
 size c = c .size-of .ensures
 
-record Whole (size length : ℕ) : Type 0 where
-  known : 13 ≤ size
-  within : size ≤ length
-
-whole : (c : tie.After-size-of) → Whole (c .size-of .result) (length (c .before .before .before .before .before .args .bytes .now))
-whole c =
-    let s = c .before .before .before .before .before in
-    record { known = rw (size c) (known-size (s .args .bytes .now) (s .pre .0)); within = rw (size c) (s .pre .1) }
-
 sub-at : tie.Need-sub-at
-sub-at c = omega (arith, whole c .known)
+sub-at c = omega (arith, size c, known (c .before .before .before .before .before))
+
+twelve-left : (c : tie.After-size-of) → c .size-of .result - 12 + 12 ≤ length (c .before .before .before .before .before .args .bytes .now)
+twelve-left c = omega (arith, size c, known (c .before .before .before .before .before), c .before .before .before .before .before .pre .1)
 
 number-at-requires-2 : tie.Need-number-at-requires-2
-number-at-requires-2 c κs = omega (arith, whole c .known, whole c .within)
+number-at-requires-2 c κs = omega (arith, twelve-left c)
 
 add-number-at : tie.Need-add-number-at
 add-number-at c = search needs
 
 number-at-requires-3 : tie.Need-number-at-requires-3
-number-at-requires-3 c κs = omega (arith, whole (c .before) .known, whole (c .before) .within)
+number-at-requires-3 c κs = omega (arith, twelve-left (c .before))
 
 add-number-at-2 : tie.Need-add-number-at-2
 add-number-at-2 c = search needs
 
 number-at-requires-4 : tie.Need-number-at-requires-4
-number-at-requires-4 c κs = omega (arith, whole (c .before .before) .known, whole (c .before .before) .within)
+number-at-requires-4 c κs = omega (arith, twelve-left (c .before .before))
 
 returns : tie.Need-returns
 returns c =
