@@ -13,6 +13,8 @@ use Rattle.writer.specs.declared.writing.Written.the-variants.{Refused}
 use Rattle.wire.specs.Reading.{readSet}
 use Rattle.model.specs.Buffers.{over}
 use Rattle.writer.specs.Writing.{writeSet, bufferAfter}
+use Rattle.wire.proofs.ReadingLaws.{refused-is-empty}
+use Rattle.writer.proofs.WritingLaws.{empty-changes-nothing}
 use Rattle.capi.specs.Calls.{six, returned, answerAfter, CallAnswers, rewrite, rewritten, outAfter}
 
 pub six-stores :
@@ -40,6 +42,14 @@ module _ (b out : List ℕ) where
   pub read-refused : {r : Refusal} → readSet b .check ≡ TurnedAway r → (Refused r ≡ rewrite b (length out)) × (out ≡ rewritten b out)
   unfolding rewrite rewritten
   read-refused h = (rw h, rw h)
+
+  -- and the empty set written
+  pub refused-then-written :
+      {r : Refusal} {after : List ℕ} →
+      readSet b .check ≡ TurnedAway r →
+      after ≡ bufferAfter (readSet b .set) out →
+      (Refused r ≡ rewrite b (length out)) × (after ≡ rewritten b out)
+  refused-then-written h p = let k = read-refused h in (k .0, p ∙ rw (refused-is-empty b h) (empty-changes-nothing out) ∙ k .1)
 
   pub read-fine :
       {w : Written} {after : List ℕ} →

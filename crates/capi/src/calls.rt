@@ -42,15 +42,17 @@ pub extern "C" fn simaurkoi_superposition(set: &[u8], k: u32, answer: &mut [u64]
     put_numbers(answer, n)
 }
 
+// The set of a refused read is empty: writing it changes no byte.
 fn read_then_write(set: &[u8], out: &mut [u8]) -> Written
     ensures { λ r. ⌜ (r ≡ rewrite (now (set .entry)) (length (now (out .entry)))) × (now (out .exit) ≡ rewritten (now (set .entry)) (now (out .entry))) ⌝ }
 {
     let read = read_set(set);
     let check = read.check;
-    if let Check::TurnedAway(r) = check {
-        return Written::Refused(r);
+    let done = write_set(read.set, out);
+    match check {
+        Check::Fine => done,
+        Check::TurnedAway(r) => Written::Refused(r),
     }
-    write_set(read.set, out)
 }
 
 #[no_mangle]

@@ -8,14 +8,16 @@ use lib.Seq.{set-append-seam}
 use Rattle.model.specs.declared.elements.Element.{Element}
 use Rattle.model.specs.declared.elements.TaskSet.{TaskSet}
 use Rattle.model.specs.declared.answers.Refusal.{Refusal}
+use Rattle.model.specs.declared.answers.Check.{Check}
 use Rattle.model.specs.declared.answers.Check.the-variants.{Fine, TurnedAway}
 use Rattle.model.specs.Elements.{places, filler, setOf, emptySet}
+use Rattle.wire.specs.declared.records.Record.{Record}
 use Rattle.wire.specs.declared.records.Record.the-variants as answer
 use Rattle.wire.specs.declared.reading.ReadSet.{ReadSet}
 use Rattle.wire.specs.Format.{recordSize, elementOf}
-use Rattle.wire.specs.Reading.{readNext, restOf, checkRecords, elementsIn, readSet}
+use Rattle.wire.specs.Reading.{checkOf, readNext, restOf, checkRecords, elementsIn, handedBack, readSet}
 use Rattle.wire.proofs.FormatLaws.{some-size}
-use Rattle.wire.proofs.ReadingLaws.{IsElement, answer-tells, rest-element, records-end, records-stop, records-next, elements-end, elements-next}
+use Rattle.wire.proofs.ReadingLaws.{IsElement, answer-tells, rest-element, NoElement, no-element, records-end, records-stop, records-next, elements-end, elements-next}
 
 -- the set with one element more, as the stores leave it
 abbrev pub withNext : TaskSet → Element → TaskSet
@@ -48,24 +50,22 @@ module _ (s : List ℕ) (t : TaskSet) (left : List ℕ) (k : Reading s t left) w
   pub count-is : t .count ≡ length (k .got)
   count-is = ap (λ x. x .count) (k .table)
 
-  pub at-a-refusal :
-      {r : Refusal} →
-      readNext (places - t .count) (length s - length left) left ≡ answer.Refused r →
-      {u : TaskSet} →
-      u ≡ emptySet →
-      _≡_ {A = ReadSet} (record { check = TurnedAway r; set = u }) (readSet s)
+  pub stop :
+      (r : Record) →
+      readNext (places - t .count) (length s - length left) left ≡ r →
+      NoElement r →
+      {v : Check} →
+      v ≡ checkOf r →
+      handedBack v t ≡ readSet s
   unfolding readSet
-  at-a-refusal h e =
+  stop (answer.Element e) h o p = no-element e o
+  stop (answer.Refused r) h o p =
       let f = answer-tells (places - length (k .got)) (length s - length left) left (rw count-is at h) in
-      rw (e, k .check, records-stop (length s - length left) left (places - length (k .got)) (f .0) (f .1))
-
-  pub at-the-end :
-      readNext (places - t .count) (length s - length left) left ≡ answer.End →
-      _≡_ {A = ReadSet} (record { check = Fine; set = t }) (readSet s)
-  unfolding readSet
-  at-the-end h =
+      rw (p, k .check, records-stop (length s - length left) left (places - length (k .got)) (f .0) (f .1))
+  stop answer.End h o p =
       let f = answer-tells (places - length (k .got)) (length s - length left) left (rw count-is at h) in
       rw (
+        p,
         k .check,
         k .elements,
         records-end (length s - length left) left (places - length (k .got)) f,
@@ -104,3 +104,10 @@ module _ (s : List ℕ) (t : TaskSet) (left : List ℕ) (k : Reading s t left) w
 
     pub less : length (restOf left) < length left
     less = rw (rest-is, length-drop) (omega (arith, found .0 .whole, some-size left))
+
+module _ {v : Check} (t : TaskSet) where
+  pub handed-empty : {r : Refusal} → v ≡ TurnedAway r → {u : TaskSet} → u ≡ emptySet → _≡_ {A = ReadSet} (record { check = v; set = u }) (handedBack v t)
+  handed-empty p e = rw (p, e)
+
+  pub handed-whole : v ≡ Fine → _≡_ {A = ReadSet} (record { check = v; set = t }) (handedBack v t)
+  handed-whole p = rw p

@@ -13,18 +13,19 @@ use lib.ListN.{length, take, drop, length-drop}
 use lib.Seq.{take-all}
 use borrow.Author.Tests.{le-leb, leb-true, eqb-true, ne-eqb}
 use Rattle.model.specs.declared.elements.Element.{Element}
+use Rattle.model.specs.declared.elements.TaskSet.{TaskSet}
 use Rattle.model.specs.declared.answers.Refusal.{Refusal}
 use Rattle.model.specs.declared.answers.Check.{Check}
 use Rattle.model.specs.declared.answers.Check.the-variants.{Fine, TurnedAway}
 use Rattle.model.specs.Over.{allOver}
-use Rattle.model.specs.Elements.{places, isLegal, AllLegal, setOf}
+use Rattle.model.specs.Elements.{places, isLegal, AllLegal, setOf, emptySet}
 use Rattle.model.specs.TurnedAway.{unless}
 use Rattle.model.proofs.Cases.{test, clash}
 use Rattle.model.proofs.TurnedAwayLaws.{then-fine, unless-fine, element-fine}
 use Rattle.wire.specs.declared.records.Record.{Record}
 use Rattle.wire.specs.declared.records.Record.the-variants as answer
 use Rattle.wire.specs.Format.{kindOf, isKind, recordSize, elementOf}
-use Rattle.wire.specs.Reading.{checkRecord, noBytes, answerOf, readNext, readRecord, bytesTaken, restOf, IsRest, checkRecords, elementsIn, handedBack, readSet}
+use Rattle.wire.specs.Reading.{checkRecord, noBytes, answerOf, checkOf, readNext, readRecord, bytesTaken, restOf, IsRest, checkRecords, elementsIn, handedBack, readSet}
 use Rattle.wire.proofs.records.Record.{the-type}
 use Rattle.wire.proofs.FormatLaws.{some-size}
 
@@ -97,14 +98,14 @@ module _ (s : List ℕ) where
 abbrev pub NoElement : Record → Type 0
 NoElement r = OneOf (1 ∷ 2 ∷ []) (tagOf the-type r)
 
-no-element : {A : Type 0} (e : Element) → NoElement (answer.Element e) → A
+pub no-element : {A : Type 0} (e : Element) → NoElement (answer.Element e) → A
 no-element e = ⊎-elim (λ (z : _≡_ {A = ℕ} 0 1). absurd (omega arith)) (λ (z : _≡_ {A = ℕ} 0 2). absurd (omega arith))
 
--- and no refusal either
-pub only-the-end : (r : Record) → NoElement r → OneOf (0 ∷ 2 ∷ []) (tagOf the-type r) → r ≡ answer.End
-only-the-end (answer.Element e) o n = no-element e o
-only-the-end (answer.Refused r) o n = ⊎-elim (λ (z : _≡_ {A = ℕ} 1 0). absurd (omega arith)) (λ (z : _≡_ {A = ℕ} 1 2). absurd (omega arith)) n
-only-the-end answer.End o n = refl
+-- an answer that is no refusal, as a `match` leaves it
+pub no-refusal : (r : Record) → OneOf (0 ∷ 2 ∷ []) (tagOf the-type r) → Fine ≡ checkOf r
+no-refusal (answer.Element e) o = refl
+no-refusal (answer.Refused r) o = ⊎-elim (λ (z : _≡_ {A = ℕ} 1 0). absurd (omega arith)) (λ (z : _≡_ {A = ℕ} 1 2). absurd (omega arith)) o
+no-refusal answer.End o = refl
 
 taken-none : (r : Record) (s : List ℕ) → NoElement r → bytesTaken r s ≡ 0
 unfolding bytesTaken
@@ -192,3 +193,12 @@ read-check s = go (checkRecords places 0 s)
 pub read-elements : (s : List ℕ) → checkRecords places 0 s ≡ Fine → readSet s .set ≡ setOf (elementsIn places s)
 unfolding readSet
 read-elements s h = rw h
+
+-- A REFUSED READ
+handed-refused : (v : Check) (t : TaskSet) {r : Refusal} → handedBack v t .check ≡ TurnedAway r → handedBack v t .set ≡ emptySet
+handed-refused Fine t h = let z : _≡_ {A = ℕ} 0 1 = cc in absurd (omega arith)
+handed-refused (TurnedAway r) t h = refl
+
+pub refused-is-empty : (s : List ℕ) {r : Refusal} → readSet s .check ≡ TurnedAway r → readSet s .set ≡ emptySet
+unfolding readSet
+refused-is-empty s h = handed-refused (checkRecords places 0 s) (setOf (elementsIn places s)) h

@@ -13,7 +13,8 @@ use Rattle.model.specs.declared.elements.Element.{Element}
 use Rattle.model.specs.declared.elements.TaskSet.{TaskSet}
 use Rattle.model.specs.declared.answers.Refusal.{Refusal}
 use Rattle.model.specs.declared.answers.Check.the-variants.{Fine, TurnedAway}
-use Rattle.model.specs.TurnedAway.{unless, checkSet}
+use Rattle.model.specs.Elements.{emptySet}
+use Rattle.model.specs.TurnedAway.{unless, checkElements, checkSet}
 use Rattle.writer.specs.declared.writing.Written.the-variants.{Bytes, Refused}
 use Rattle.writer.specs.Writing.{bytesOf, checkWrite, writeSet, bufferAfter}
 use Rattle.model.specs.Buffers.{over}
@@ -95,3 +96,7 @@ module _ (t : TaskSet) (out : List ℕ) where
       (Bytes n ≡ writeSet t (length out)) × (out′ ≡ bufferAfter t out)
   unfolding checkWrite unless writeSet bufferAfter
   write-done h g l o = let long = le-leb (length (bytesOf t)) (length out) (omega arith) in (rw (g, h, long), o ∙ rw (h, long))
+
+pub empty-changes-nothing : (out : List ℕ) → bufferAfter emptySet out ≡ out
+unfolding unless checkElements checkSet recordsOf checkWrite bufferAfter
+empty-changes-nothing out = rw (le-leb 0 (length out) (omega arith))

@@ -1,14 +1,13 @@
 // A set written to a lent buffer.
 ghost use mathlib.Core.Path.{_≡_};
 ghost use mathlib.Core.List.{_++_};
-ghost use Prim.Native.Nat.{_+_, _≤_};
+ghost use Prim.Native.Nat.{_+_, _≤_, min};
 ghost use lib.ListN.{length};
 ghost use lib.Seq.{sets};
 ghost use Rattle.model.specs.Elements.{places};
 ghost use Rattle.wire.specs.Format.{numberBytes, startOf, recordOf};
 ghost use Rattle.writer.specs.Writing.{bytesOf};
 ghost use Rattle.writer.specs.Contracts.{WriteSetSays};
-ghost use Rattle.model.specs.Buffers.{over};
 use crate::numbers::put_number;
 use model::Check;
 use model::Element;
@@ -16,6 +15,7 @@ use model::Period;
 use model::Refusal;
 use model::TaskSet;
 use model::checks::check_set;
+use model::elements::PLACES;
 
 pub enum Written {
     Bytes(usize),
@@ -73,11 +73,19 @@ fn record_size(e: Element) -> usize
     start_size(period) + 12
 }
 
+fn counted_places(count: usize) -> usize
+    ensures { λ r. ⌜ r ≡ min count places ⌝ }
+{
+    if PLACES < count {
+        return PLACES;
+    }
+    count
+}
+
 fn bytes_needed(set: TaskSet) -> usize
-    requires { ⌜ set .count ≤ places ⌝ }
     ensures { λ r. ⌜ r ≡ length (bytesOf set) ⌝ }
 {
-    let count = set.count;
+    let count = counted_places(set.count);
     let mut needed: usize = 0;
     let mut i: usize = 0;
     while i < count {
@@ -88,10 +96,20 @@ fn bytes_needed(set: TaskSet) -> usize
     needed
 }
 
-fn put_records(set: TaskSet, out: &mut [u8])
-    requires { ⌜ (set .count ≤ places) × (length (bytesOf set) ≤ length (now out)) ⌝ }
-    ensures { λ _. ⌜ now (out .exit) ≡ over (bytesOf set) (now (out .entry)) ⌝ }
+// Every check stands before the first byte is written, and what goes over the whole set before the first return: the compiler then copies no set.
+pub fn write_set(set: TaskSet, out: &mut [u8]) -> Written
+    ensures { λ r. ⌜ WriteSetSays set (now (out .entry)) r (now (out .exit)) ⌝ }
 {
+    let needed = bytes_needed(set);
+    if let Check::TurnedAway(r) = check_set(set) {
+        return Written::Refused(r);
+    }
+    if out.len() < needed {
+        return Written::Refused(Refusal {
+            number: 10,
+            place: needed,
+        });
+    }
     let count = set.count;
     let mut at: usize = 0;
     let mut i: usize = 0;
@@ -101,22 +119,5 @@ fn put_records(set: TaskSet, out: &mut [u8])
         at = at + record_size(e);
         i = i + 1;
     }
-}
-
-// Every check stands before the first byte is written.
-pub fn write_set(set: TaskSet, out: &mut [u8]) -> Written
-    ensures { λ r. ⌜ WriteSetSays set (now (out .entry)) r (now (out .exit)) ⌝ }
-{
-    if let Check::TurnedAway(r) = check_set(set) {
-        return Written::Refused(r);
-    }
-    let needed = bytes_needed(set);
-    if out.len() < needed {
-        return Written::Refused(Refusal {
-            number: 10,
-            place: needed,
-        });
-    }
-    put_records(set, out);
     Written::Bytes(needed)
 }

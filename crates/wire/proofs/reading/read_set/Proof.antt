@@ -6,9 +6,8 @@ use lib.ListN.{length}
 use borrow.Author.Needs.{needs}
 use Rattle.model.specs.Elements.{places}
 use Rattle.wire.specs.declared.records.Record.the-variants as answer
-use Rattle.wire.specs.Reading.{readNext}
-use Rattle.wire.proofs.ReadingLaws.{only-the-end}
-use Rattle.wire.proofs.ReadingASet.{Reading, start, count-is, at-a-refusal, at-the-end, room, next, less}
+use Rattle.wire.specs.Reading.{readNext, handedBack, readSet}
+use Rattle.wire.proofs.ReadingASet.{Reading, start, count-is, stop, room, next, less, handed-empty, handed-whole}
 use Rattle.wire.proofs.reading.read_set.Statement.{statement}
 use Rattle.wire.proofs.reading.read_set.Tie as tie
 
@@ -36,22 +35,8 @@ read-next-requires c κs = search needs
 enum-known-found : tie.Need-enum-known-found Inv-loop μ-loop
 enum-known-found c = search needs
 
-enum-known-found-2 : tie.Need-enum-known-found-2 Inv-loop μ-loop
-enum-known-found-2 c = search needs
-
-returns : tie.Need-returns Inv-loop μ-loop
-returns c =
-    at-the-end _ _ _ (c .before .before .before .loop .inv)
-    (sym (c .before .before .read-next .ensures) ∙ only-the-end _ (c .before .match .keys2) (c .match2 .keys2))
-
-empty-set-requires-2 : tie.Need-empty-set-requires-2 Inv-loop μ-loop
-empty-set-requires-2 c κs = search needs
-
-returns-2 : tie.Need-returns-2 Inv-loop μ-loop
-returns-2 c =
-    at-a-refusal _ _ _ (c .before .before .before .before .before .before .loop .inv)
-    (sym (c .before .before .before .before .before .read-next .ensures) ∙ c .before .before .found2 .given .1)
-    (c .empty-set2 .ensures)
+check-of-requires : tie.Need-check-of-requires Inv-loop μ-loop
+check-of-requires c κs = search needs
 
 rest-requires : tie.Need-rest-requires Inv-loop μ-loop
 rest-requires c κs = search needs
@@ -79,6 +64,25 @@ loop-less c = rw (c .rest .ensures .bytes) (less _ _ _ (c .before .before .befor
 loop-again : tie.Need-loop-again Inv-loop μ-loop
 loop-again c = rw (c .rest .ensures .bytes) (next _ _ _ (c .before .before .before .before .before .loop .inv) (found c))
 
+stopped : (c : tie.After-check-of Inv-loop μ-loop) →
+    handedBack (c .check-of .result) (c .before .before .before .loop .set) ≡ readSet (c .before .before .before .before .before .before .args .bytes .now)
+stopped c = stop _ _ _ (c .before .before .before .loop .inv) _ (sym (c .before .before .read-next .ensures)) (c .before .match .keys2) (c .check-of .ensures)
+
+enum-told : tie.Need-enum-told Inv-loop μ-loop
+enum-told c = search needs
+
+empty-set-requires-2 : tie.Need-empty-set-requires-2 Inv-loop μ-loop
+empty-set-requires-2 c κs = search needs
+
+enum-told-2 : tie.Need-enum-told-2 Inv-loop μ-loop
+enum-told-2 c = search needs
+
+returns : tie.Need-returns Inv-loop μ-loop
+returns c = handed-empty (c .before .before .before .before .before .before .loop .set) (c .before .enum-told .given .1) (c .empty-set2 .ensures) ∙ stopped (c .before .before .before)
+
+returns-2 : tie.Need-returns-2 Inv-loop μ-loop
+returns-2 c = handed-whole (c .before .before .before .before .before .loop .set) (c .enum-told2 .given .1) ∙ stopped (c .before .before)
+
 pub read-set-spec : {M : Type 1} → statement M
 read-set-spec =
     tie.close
@@ -91,13 +95,15 @@ read-set-spec =
     sub-read-next
     read-next-requires
     enum-known-found
-    enum-known-found-2
-    returns
-    empty-set-requires-2
-    returns-2
+    check-of-requires
     rest-requires
     mul-e
     element-set-from-e
     add-set
     loop-less
-    loop-again)
+    loop-again
+    enum-told
+    empty-set-requires-2
+    enum-told-2
+    returns
+    returns-2)
