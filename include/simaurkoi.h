@@ -102,7 +102,7 @@
    made. So several threads may call at once, each with an out and an answer of its own; they may
    share a set.
    Stack: the frames take 44,256 bytes for simaurkoi_exact, 13,024 for simaurkoi_superposition and
-   5,216 for simaurkoi_rewrite. What memcpy and memset take comes on top: SIMAURKOI_EXACT_STACK and
+   2,640 for simaurkoi_rewrite. What memcpy and memset take comes on top: SIMAURKOI_EXACT_STACK and
    its sisters leave a kilobyte and more for it.
    Time: the exact test compares fewer than 1,107,296,256 lengths. Most sets have far fewer; the
    longest runs take seconds. Superposition compares at most k lengths for each record of kind 1 and
@@ -119,7 +119,7 @@
 /* The stack to allow for a call, in bytes. */
 #define SIMAURKOI_EXACT_STACK 46080
 #define SIMAURKOI_SUPERPOSITION_STACK 14336
-#define SIMAURKOI_REWRITE_STACK 6144
+#define SIMAURKOI_REWRITE_STACK 4096
 
 /* Which place of the answer is which. */
 #define SIMAURKOI_REFUSAL 0

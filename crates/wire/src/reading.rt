@@ -29,20 +29,18 @@ pub fn read_set(bytes: &[u8]) -> ReadSet
 {
     let mut set = empty_set();
     let mut left = bytes;
-    let mut check = Check::Fine;
-    loop {
+    let check = loop {
         let count = set.count;
         let place = bytes.len() - left.len();
         let found = read_next(PLACES - count, place, left);
         let Record::Element(e) = found else {
-            check = check_of(found);
-            break;
+            break check_of(found);
         };
         let next = rest(left);
         left = next;
         set.table[count] = e;
         set.count = count + 1;
-    }
+    };
     if let Check::TurnedAway(_) = check {
         set = empty_set();
     }
