@@ -101,9 +101,8 @@
    Nothing is allocated, nothing is kept from call to call, nothing is called back, no system call is
    made. So several threads may call at once, each with an out and an answer of its own; they may
    share a set.
-   Stack: the frames take 44,256 bytes for simaurkoi_exact, 13,024 for simaurkoi_superposition and
-   2,640 for simaurkoi_rewrite. What memcpy and memset take comes on top: SIMAURKOI_EXACT_STACK and
-   its sisters leave a kilobyte and more for it.
+   Stack: SIMAURKOI_EXACT_STACK bytes, and its sisters below, suffice. A kilobyte and more of each is
+   left for memcpy and memset, which are the caller's.
    Time: the exact test compares fewer than 1,107,296,256 lengths. Most sets have far fewer; the
    longest runs take seconds. Superposition compares at most k lengths for each record of kind 1 and
    one for each of kind 2, which takes milliseconds; rewriting takes microseconds. */

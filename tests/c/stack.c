@@ -27,6 +27,15 @@ static void ask_rewrite(void)
     asked->rewrite(given->bytes, given->size, out, sizeof out, answer, SIMAURKOI_PLACES);
 }
 
+/* A wrong version, which the measure has to see. */
+static void ask_greedily(void)
+{
+    volatile uint8_t more[SIMAURKOI_REWRITE_STACK];
+    for (size_t i = 0; i < sizeof more; i++)
+        more[i] = 0;
+    ask_rewrite();
+}
+
 static void run_on_stack(void (*call)(void))
 {
     __asm__ volatile("movq %%rsp, %%rbx\n\t"
@@ -84,5 +93,8 @@ int stack_suffices(const struct interface *called)
     enough &= suffices(", superposition ", ask_superposition, SIMAURKOI_SUPERPOSITION_STACK);
     enough &= suffices(", rewrite ", ask_rewrite, SIMAURKOI_REWRITE_STACK);
     put_text(enough ? "\n" : ": TOO MUCH\n");
-    return enough;
+    if (most_stack_of(ask_greedily) > SIMAURKOI_REWRITE_STACK)
+        return enough;
+    put_text("NOT SEEN: more stack than is allowed\n");
+    return 0;
 }
