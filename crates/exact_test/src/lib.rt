@@ -1,4 +1,6 @@
 // Document 01, "Exact test", of a set in memory.
+#![tactic(auto)]
+
 ghost use Rattle.exact_test.specs.FunctionContracts.{ExactSays};
 
 mod lengths;

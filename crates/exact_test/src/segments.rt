@@ -14,20 +14,20 @@ pub(crate) const TICKS: usize = 4096;
 pub(crate) const WORDS: usize = 64;
 
 // A place's first date past the segment, and the words that have marks.
-#[derive(Drop)]
+#[derive(Clone, Copy)]
 struct Reached {
     next: u64,
     seen: u64,
 }
 
 // No place has a date below low and past the segment; the words that have marks.
-#[derive(Drop)]
+#[derive(Clone, Copy)]
 pub(crate) struct Filled {
     pub(crate) low: u64,
     pub(crate) seen: u64,
 }
 
-#[derive(Drop)]
+#[derive(Clone, Copy)]
 pub(crate) enum Swept {
     Late(Verdict),
     Clean { demand: u64, count: u64 },

@@ -14,7 +14,7 @@ use model::{Check, Element, Period, TaskSet};
 // No test asks for the demand of a longer one.
 const MOST_LENGTH: u64 = 4_294_967_296;
 
-#[derive(Drop)]
+#[derive(Clone, Copy)]
 pub(crate) enum LeastMultiple {
     Above(usize),
     Within(u64),

@@ -1,4 +1,6 @@
 // What every analysis starts with. specs/ says what each function answers.
+#![tactic(auto)]
+
 mod demand;
 pub mod overload;
 

@@ -11,7 +11,7 @@ use crate::demand::{LeastMultiple, demand_in, hyperperiod, largest_first};
 use model::checks::check_set;
 use model::{Check, Refusal, TaskSet, Verdict};
 
-#[derive(Drop)]
+#[derive(Clone, Copy)]
 pub enum Loaded {
     Refused(Refusal),
     AboveOne(Verdict),

@@ -10,27 +10,28 @@ use Rattle.model.specs.declared.answers.Values.{Values}
 use Rattle.model.specs.Answers.{values}
 use Rattle.model.specs.FunctionContracts.{EmptySetSays, FirstDueSays, CheckElementSays, CheckSetSays, CheckKSays, ValuesOfSays}
 use Rattle.model.specs.Promises.{Promises}
+use Rattle.model.specs.contracts
 use Rattle.model.proofs.elements
 use Rattle.model.proofs.checks
 use Rattle.model.proofs.answers
 
 -- THE CODE KEEPS THEM: what the checker proved of each function is its contract
-pub empty_set_keeps : Promises elements.empty_set.ended elements.empty_set.Symbol.routine (λ κs given r after. EmptySetSays r)
+pub empty_set_keeps : Promises contracts.elements.empty_set.ended elements.empty_set.Symbol.code elements.empty_set.Symbol.name (λ κs given r after. EmptySetSays r)
 empty_set_keeps = record { met = λ M. elements.empty_set.Met.met }
 
-pub first_due_keeps : Promises elements.first_due.ended elements.first_due.Symbol.routine (λ κs given r after. FirstDueSays given.0 r)
+pub first_due_keeps : Promises contracts.elements.first_due.ended elements.first_due.Symbol.code elements.first_due.Symbol.name (λ κs given r after. FirstDueSays given.0 r)
 first_due_keeps = record { met = λ M. elements.first_due.Met.met }
 
-pub check_element_keeps : Promises checks.check_element.ended checks.check_element.Symbol.routine (λ κs given r after. CheckElementSays given.0 given.1.0 r)
+pub check_element_keeps : Promises contracts.checks.check_element.ended checks.check_element.Symbol.code checks.check_element.Symbol.name (λ κs given r after. CheckElementSays given.0 given.1.0 r)
 check_element_keeps = record { met = λ M. checks.check_element.Met.met }
 
-pub check_set_keeps : Promises checks.check_set.ended checks.check_set.Symbol.routine (λ κs given r after. CheckSetSays given.0 r)
+pub check_set_keeps : Promises contracts.checks.check_set.ended checks.check_set.Symbol.code checks.check_set.Symbol.name (λ κs given r after. CheckSetSays given.0 r)
 check_set_keeps = record { met = λ M. checks.check_set.Met.met }
 
-pub check_k_keeps : Promises checks.check_k.ended checks.check_k.Symbol.routine (λ κs given r after. CheckKSays given.0 r)
+pub check_k_keeps : Promises contracts.checks.check_k.ended checks.check_k.Symbol.code checks.check_k.Symbol.name (λ κs given r after. CheckKSays given.0 r)
 check_k_keeps = record { met = λ M. checks.check_k.Met.met }
 
-pub values_of_keeps : Promises answers.values_of.ended answers.values_of.Symbol.routine (λ κs given r after. ValuesOfSays given.0 r)
+pub values_of_keeps : Promises contracts.answers.values_of.ended answers.values_of.Symbol.code answers.values_of.Symbol.name (λ κs given r after. ValuesOfSays given.0 r)
 values_of_keeps = record { met = λ M. answers.values_of.Met.met }
 
 -- NO TWO OUTCOMES

@@ -3,20 +3,20 @@ ghost use Rattle.std.specs.Prelude.{◌≡◌};
 ghost use Rattle.model.specs.FunctionContracts.{ValuesOfSays};
 
 // A row of document 01's table of what is turned away, with its place.
-#[derive(Drop)]
+#[derive(Clone, Copy)]
 pub struct Refusal {
     pub number: u32,
     pub place: usize,
 }
 
 // What a check finds.
-#[derive(Drop)]
+#[derive(Clone, Copy)]
 pub enum Check {
     Fine,
     TurnedAway(Refusal),
 }
 
-#[derive(Drop)]
+#[derive(Clone, Copy)]
 pub enum Verdict {
     Passes {
         count: u64,
@@ -37,13 +37,13 @@ pub enum Verdict {
     },
 }
 
-#[derive(Drop)]
+#[derive(Clone, Copy)]
 pub enum Answer {
     Refused(Refusal),
     Given(Verdict),
 }
 
-#[derive(Drop)]
+#[derive(Clone, Copy)]
 pub struct Values {
     pub verdict: u64,
     pub interval: u64,
@@ -52,7 +52,7 @@ pub struct Values {
 }
 
 // A refusal's number and place with zeros after them, or a verdict's values with zeros before them.
-#[derive(Drop)]
+#[derive(Clone, Copy)]
 pub struct Numbers {
     pub refusal: u32,
     pub place: usize,

@@ -9,12 +9,14 @@ use crate::elements::{
     Element, MOST_COST, MOST_DEADLINE, MOST_K, MOST_OFFSET, MOST_PERIOD, PLACES, Period, TaskSet,
 };
 
+#[tactic(auto, unfolding(crate::specs::Elements::within))]
 fn is_within(low: u32, high: u32, x: u32) -> bool
     ensures { result ≡ within low high x }
 {
     low <= x && x <= high
 }
 
+#[tactic(auto, unfolding(crate::specs::Elements::is_period))]
 fn is_period(period: Period) -> bool
     ensures { result ≡ is_period period }
 {
@@ -31,6 +33,7 @@ fn turned(number: u32, place: usize) -> Check
 }
 
 // 4 to 7, in that order, at the place of the element.
+#[tactic(auto, unfolding(crate::specs::Elements::is_offset, crate::specs::Elements::is_deadline, crate::specs::Elements::is_cost, crate::specs::TurnedAway::unless, crate::specs::TurnedAway::check_element))]
 pub fn check_element(place: usize, e: Element) -> Check
     ensures { CheckElementSays place e result }
 {
@@ -51,6 +54,7 @@ pub fn check_element(place: usize, e: Element) -> Check
 }
 
 // 9: k out of range.
+#[tactic(auto, unfolding(crate::specs::TurnedAway::unless, crate::specs::TurnedAway::check_k))]
 pub fn check_k(k: u32) -> Check
     ensures { CheckKSays k result }
 {

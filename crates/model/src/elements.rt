@@ -16,13 +16,13 @@ pub const MOST_HYPERPERIOD: u64 = 1_073_741_824;
 pub const MOST_K: u32 = 255;
 
 // A single event comes once. Once stands first: what a table is read as past its end is then the filler.
-#[derive(Drop)]
+#[derive(Clone, Copy)]
 pub enum Period {
     Once,
     Every(u32),
 }
 
-#[derive(Drop)]
+#[derive(Clone, Copy)]
 pub struct Element {
     pub period: Period,
     pub offset: u32,
@@ -30,7 +30,7 @@ pub struct Element {
     pub cost: u32,
 }
 
-#[derive(Drop)]
+#[derive(Clone, Copy)]
 pub struct TaskSet {
     pub count: usize,
     pub table: [Element; PLACES],

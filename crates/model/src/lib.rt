@@ -1,4 +1,6 @@
 // Document 01's types: a set of event stream elements, and the answer of an analysis. specs/ says what they mean.
+#![tactic(auto)]
+
 pub mod answers;
 pub mod checks;
 pub mod elements;

@@ -11,7 +11,7 @@ use model::{Answer, Refusal, Verdict};
 // No text is longer than 356 bytes.
 pub const ROOM: usize = 512;
 
-#[derive(Drop)]
+#[derive(Clone, Copy)]
 enum Shown {
     Refusal(Refusal),
     Lines {

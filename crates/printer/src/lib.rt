@@ -1,4 +1,6 @@
 // Texts that are printed. specs/ says what each is.
+#![tactic(auto)]
+
 pub mod answers;
 mod fields;
 

@@ -1,4 +1,6 @@
 // Document 01, "Superposition", of a set in memory, with k test points for each periodic element.
+#![tactic(auto)]
+
 ghost use Rattle.superposition_test.specs.FunctionContracts.{SuperpositionSays};
 
 mod walk;

@@ -67,7 +67,7 @@ fn lay_limits(
 }
 
 // The cost due at one length, and what the slope rises by there.
-#[derive(Drop)]
+#[derive(Clone, Copy)]
 pub(crate) struct Moved {
     pub(crate) cost: u64,
     pub(crate) rise: u64,

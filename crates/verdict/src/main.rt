@@ -1,4 +1,6 @@
 // Document 01, "The verdict printer": reads a set as bytes from standard input, and prints what both tests answer.
+#![tactic(auto)]
+
 mod report;
 
 use crate::report::put_verdicts;

@@ -1,4 +1,6 @@
 // Document 01, "The set as bytes": a set is read from bytes. specs/ says what that means.
+#![tactic(auto)]
+
 mod numbers;
 pub mod reading;
 pub mod records;

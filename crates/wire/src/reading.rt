@@ -7,7 +7,7 @@ use crate::records::{Record, read_next, rest};
 use model::elements::{PLACES, empty_set};
 use model::{Check, TaskSet};
 
-#[derive(Drop)]
+#[derive(Clone, Copy)]
 pub struct ReadSet {
     pub check: Check,
     pub set: TaskSet,

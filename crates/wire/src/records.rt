@@ -10,7 +10,7 @@ use model::checks::check_element;
 use model::elements::PLACES;
 use model::{Check, Element, Period, Refusal};
 
-#[derive(Drop)]
+#[derive(Clone, Copy)]
 pub enum Record {
     Element(Element),
     Refused(Refusal),

@@ -11,7 +11,7 @@ use model::checks::check_set;
 use model::elements::PLACES;
 use model::{Check, Element, Period, Refusal, TaskSet};
 
-#[derive(Drop)]
+#[derive(Clone, Copy)]
 pub enum Written {
     Bytes(usize),
     Refused(Refusal),
