@@ -35,8 +35,8 @@ fn gcd(a: u64, b: u64) -> u64
 }
 
 fn joined(period: Period, h: u64) -> u64
-    requires period_value { is_period period ≡ true }
-    requires h_le_most_h { h ≤ most_h }
+    requires period_legal { is_period period ≡ true }
+    requires h_small { h ≤ most_h }
     ensures { result ≡ the_joined period h }
 {
     match period {
@@ -87,8 +87,8 @@ pub(crate) fn largest_first(set: TaskSet) -> u64
 }
 
 fn demand_of(e: Element, length: u64) -> u64
-    requires e_value { is_legal e ≡ true }
-    requires length_le_most_length { length ≤ most_length }
+    requires legal { is_legal e ≡ true }
+    requires short { length ≤ most_length }
     ensures { result ≡ demand_of e length }
 {
     let first = first_due(e);
@@ -105,8 +105,8 @@ fn demand_of(e: Element, length: u64) -> u64
 
 // D of a legal set.
 pub(crate) fn demand_in(set: TaskSet, length: u64) -> u64
-    requires set_value { is_legal_set set ≡ true }
-    requires length_le_most_length { length ≤ most_length }
+    requires legal { is_legal_set set ≡ true }
+    requires short { length ≤ most_length }
     ensures { result ≡ D (counted set) length }
 {
     let count = set.count;

@@ -24,9 +24,9 @@ pub enum Loaded {
 
 // Q: from F on, what demand grows by in a hyperperiod.
 fn load_in(set: TaskSet, first: u64, h: u64) -> u64
-    requires set_value { is_legal_set set ≡ true }
-    requires first_value { (first ≡ F (counted set)) × (h ≡ the_hyperperiod (counted set)) }
-    requires h_le_most_h { h ≤ most_h }
+    requires legal { is_legal_set set ≡ true }
+    requires first_and_h { (first ≡ F (counted set)) × (h ≡ the_hyperperiod (counted set)) }
+    requires h_small { h ≤ most_h }
     ensures { result ≡ Q (counted set) }
 {
     demand_in(set, first + h) - demand_in(set, first)
@@ -34,9 +34,9 @@ fn load_in(set: TaskSet, first: u64, h: u64) -> u64
 
 // The first overrun among F, F + H, F + 2H and so on: each brings demand nearer by Q - H.
 fn overload(set: TaskSet, first: u64, h: u64, q: u64) -> Verdict
-    requires set_value { is_legal_set set ≡ true }
+    requires legal { is_legal_set set ≡ true }
     requires load { IsLoad (counted set) first h q }
-    requires h_lt_q { h < q }
+    requires above_one { h < q }
     ensures { result ≡ the_overload (counted set) }
 {
     let demand = demand_in(set, first);

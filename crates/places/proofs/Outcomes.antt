@@ -5,11 +5,12 @@ use mathlib.Core.List.{List}
 use Rattle.model.specs.declared.elements.TaskSet.{TaskSet}
 use Rattle.model.specs.Promises.{Promises}
 use Rattle.places.specs.FunctionContracts.{LaySays}
+use Rattle.places.specs.contracts
 use Rattle.places.proofs.columns
 
 -- THE CODE KEEPS IT
 pub lay_keeps :
-    Promises columns.lay.ended columns.lay.Symbol.routine (λ κs given r after.
+    Promises contracts.columns.lay.ended columns.lay.Symbol.code columns.lay.Symbol.name (λ κs given r after.
     LaySays given.0
     given.1.0.now given.1.1.0.now given.1.1.1.0.now
     after.1.0.now after.1.1.0.now after.1.1.1.0.now)

@@ -1,0 +1,16 @@
+use Rattle.std.proofs.Common.{arith, sym, ◌∙◌}
+use Rattle.model.proofs.TurnedAwayLaws.{set_fine}
+use Rattle.load.proofs.LoadedLaws.{demand_at_lem, no_demand_refused, no_demand_past}
+use Rattle.load.proofs.demand.demand_at.Goals as goal
+
+pub returns-in_default : goal.returns-in_default
+returns-in_default c = no_demand_refused _ _ (sym c.check_set.ensures ∙ c.in_default.is)
+
+pub returns-then-length-gt-MOST_LENGTH : goal.returns-then-length-gt-MOST_LENGTH
+returns-then-length-gt-MOST_LENGTH c = no_demand_past _ _ c.if-length-gt-MOST_LENGTH.true
+
+pub demand_in-requires-clause-legal : goal.demand_in-requires-clause-legal
+demand_in-requires-clause-legal c = (set_fine _).0 (sym c.check_set.ensures ∙ c.in-Fine.is)
+
+pub returns : goal.returns
+returns c = c.demand_in.ensures ∙ demand_at_lem _ _ ((set_fine _).0 (sym c.check_set.ensures ∙ c.in-Fine.is)) c.if-length-gt-MOST_LENGTH.false
