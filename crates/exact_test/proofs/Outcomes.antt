@@ -4,9 +4,10 @@ use Rattle.model.specs.declared.elements.TaskSet.{TaskSet}
 use Rattle.model.specs.declared.answers.Answer.{Answer}
 use Rattle.model.specs.Promises.{Promises}
 use Rattle.exact_test.specs.FunctionContracts.{ExactSays}
+use Rattle.exact_test.specs.contracts
 use Rattle.exact_test.proofs.exact
 
-pub exact_keeps : Promises exact.ended exact.Symbol.routine (λ κs given r after. ExactSays given.0 r)
+pub exact_keeps : Promises contracts.exact.ended exact.Symbol.code exact.Symbol.name (λ κs given r after. ExactSays given.0 r)
 exact_keeps = record { met = λ M. exact.Met.met }
 
 pub exact_is_decided : (t : TaskSet) (a b : Answer) → ExactSays t a → ExactSays t b → a ≡ b

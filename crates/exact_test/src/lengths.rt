@@ -26,8 +26,8 @@ fn segment(base: u64, bound: u64) -> u64
 
 // The test lengths below the bound. The costs due are added up in a segment of lengths, and swept in rising order.
 pub(crate) fn compare_lengths(set: TaskSet, bound: u64) -> Verdict
-    requires set_value { is_legal_set set ≡ true }
-    requires bound_le_most_bound { bound ≤ most_bound }
+    requires legal { is_legal_set set ≡ true }
+    requires bound_small { bound ≤ most_bound }
     ensures { result ≡ comparing (counted set) Overrun (lengths_below (counted set) bound) }
 {
     let mut next = [NONE_LEFT; PLACES];

@@ -44,11 +44,11 @@ fn add_dates(
     len: u64,
 ) -> Reached
     requires marked { Marked due.old marks.old seen }
-    requires le_step { (1 ≤ step) × ((step ≤ most_bound) × (len ≤ ticks)) }
-    requires le_cost { (1 ≤ cost) × (at ≤ most_next) }
-    requires by_index { (y : ℕ) → IsWord (get_or due.old y 0 + cost) }
+    requires step_and_len { (1 ≤ step) × ((step ≤ most_bound) × (len ≤ ticks)) }
+    requires cost_and_at { (1 ≤ cost) × (at ≤ most_next) }
+    requires sums_fit { (y : ℕ) → IsWord (get_or due.old y 0 + cost) }
     ensures added { Added due.old due.new at step cost len result.next }
-    ensures marked_2 { Marked due.new marks.new result.seen }
+    ensures remarked { Marked due.new marks.new result.seen }
 {
     let mut j = at;
     let mut words = seen;
@@ -78,11 +78,11 @@ pub(crate) fn fill(
     len: u64,
 ) -> Filled
     requires marked { Marked due.old marks.old 0 }
-    requires zero { Zero due.old }
+    requires nothing_due { Zero due.old }
     requires addable { Addable next.old step.now cost.now n base }
-    requires len_le_ticks { (len ≤ ticks) × (base + len ≤ most_bound) }
+    requires len_fits { (len ≤ ticks) × (base + len ≤ most_bound) }
     ensures full { Full next.old next.new step.now cost.now due.new n base len result.low }
-    ensures marked_2 { Marked due.new marks.new result.seen }
+    ensures remarked { Marked due.new marks.new result.seen }
 {
     let mut low = NONE_LEFT;
     let mut seen: u64 = 0;
@@ -116,8 +116,8 @@ pub(crate) fn sweep(
     count: u64,
 ) -> Swept
     requires marked { Marked due.old marks.old seen }
-    requires word { IsWord (demand + total due.old) × IsWord (count + total due.old) }
-    requires base_le_most_next { base ≤ most_next }
+    requires sums_fit { IsWord (demand + total due.old) × IsWord (count + total due.old) }
+    requires base_small { base ≤ most_next }
     ensures value { result ≡ sweep_of due.old base demand count }
     ensures left { Left result due.new marks.new }
 {

@@ -1,0 +1,36 @@
+use Rattle.std.proofs.Common.{arith, ◌+◌, ◌≤◌, sym, ◌∙◌}
+use Rattle.model.proofs.TurnedAwayLaws.{set_fine}
+use Rattle.theory.proofs.SizeLaws.{first_small}
+use Rattle.theory.proofs.TakenSetsAreLegal.{fine_is_legal}
+use Rattle.theory.proofs.AnswerLaws.{exact_refused, exact_overload, exact_compared}
+use Rattle.load.specs.declared.overload.Loaded.TheVariants.{AtMostOne}
+use Rattle.places.specs.Columns.{most_bound}
+use Rattle.load.proofs.LoadedLaws.{Goes, load_tells}
+use Rattle.exact_test.proofs.exact.Goals as goal
+use Rattle.exact_test.proofs.exact.Goals.{In-AtMostOne}
+
+-- F and H, of a legal set with load at most one
+tells : (c : In-AtMostOne) → Goes c.args.set (AtMostOne c.in-AtMostOne.first c.in-AtMostOne.hyperperiod c.in-AtMostOne.load)
+tells c = load_tells _ _ (sym c.in-AtMostOne.is ∙ c.load_of.ensures)
+
+bound : (c : In-AtMostOne) → c.in-AtMostOne.first + c.in-AtMostOne.hyperperiod ≤ most_bound
+bound c = let k = tells c in omega (arith, k.1, k.2, k.4, first_small _ (fine_is_legal _ k.0).0)
+
+pub overflow_add-first : goal.overflow_add-first
+overflow_add-first c = omega (arith, bound c)
+
+pub compare_lengths-requires : goal.compare_lengths-requires
+compare_lengths-requires c = record { legal = (set_fine _).0 (tells c).0; bound_small = bound c }
+
+pub returns-in-Refused : goal.returns-in-Refused
+returns-in-Refused c = exact_refused _ (load_tells _ _ (sym c.in-Refused.is ∙ c.load_of.ensures))
+
+pub returns-in-AboveOne : goal.returns-in-AboveOne
+returns-in-AboveOne c =
+    let k = load_tells _ _ (sym c.in-AboveOne.is ∙ c.load_of.ensures) in
+    rw k.1 (exact_overload _ k.0 k.2 k.3)
+
+pub returns-in-AtMostOne : goal.returns-in-AtMostOne
+returns-in-AtMostOne c =
+    let k = tells (goal.at.returns-in-AtMostOne c).In-AtMostOne in
+    rw c.compare_lengths.ensures (exact_compared _ k.0 k.4 k.5 _ (omega (arith, k.1, k.2)))
