@@ -28,8 +28,8 @@ fn least(next: &[u64; PLACES], count: usize) -> u64
 }
 
 fn last_of(e: Element, k: u64) -> u64
-    requires e_value { is_legal e ≡ true }
-    requires le_k { (1 ≤ k) × (k ≤ most_k) }
+    requires legal { is_legal e ≡ true }
+    requires k_fine { (1 ≤ k) × (k ≤ most_k) }
     ensures { result ≡ m k e }
 {
     let first = first_due(e);
@@ -49,11 +49,11 @@ fn lay_limits(
     last: &mut [u64; PLACES],
     rise: &mut [u64; PLACES],
 )
-    requires set_value { is_legal_set set ≡ true }
-    requires le_k { (1 ≤ k) × (k ≤ most_k) }
-    requires h_le_most_h { h ≤ most_h }
+    requires legal { is_legal_set set ≡ true }
+    requires k_fine { (1 ≤ k) × (k ≤ most_k) }
+    requires h_small { h ≤ most_h }
     requires stepped { Stepped set step.now }
-    requires last_len { (length last.old ≡ places) × (length rise.old ≡ places) }
+    requires long { (length last.old ≡ places) × (length rise.old ≡ places) }
     ensures { Limited set k h last.new rise.new }
 {
     let count = set.count;

@@ -20,7 +20,7 @@ pub overflow_add-first : goal.overflow_add-first
 overflow_add-first c = omega (arith, bound c)
 
 pub compare_lengths-requires : goal.compare_lengths-requires
-compare_lengths-requires c = record { legal = (set_fine _).0 (tells c).0; bound_small = bound c }
+compare_lengths-requires c = record { legal = (set_fine _).0 (tells c).0; bound_small = omega (arith, bound c) }
 
 pub returns-in-Refused : goal.returns-in-Refused
 returns-in-Refused c = exact_refused _ (load_tells _ _ (sym c.in-Refused.is ∙ c.load_of.ensures))

@@ -15,10 +15,10 @@ pub overflow_add-c : goal.overflow_add-c
 overflow_add-c c = omega (arith, (sums_fit c.loop-w.invariant c.loop-w-test.true).1)
 
 pub returns-then-at-d-clause-value : goal.returns-then-at-d-clause-value
-returns-then-at-d-clause-value c = found_late c.loop-w.invariant c.loop-w-test.true c.if-at-d.true ∙ sym c.loop-words.invariant.run.same
+returns-then-at-d-clause-value c = found_late c.loop-w.invariant c.loop-w-test.true (omega (arith, c.if-at-d.true)) ∙ sym c.loop-words.invariant.run.same
 
 pub loop-w-preserved : goal.loop-w-preserved
-loop-w-preserved c = next c.loop-w.invariant c.loop-w-test.true c.if-at-d.false
+loop-w-preserved c = next c.loop-w.invariant c.loop-w-test.true (omega (arith, c.if-at-d.false))
 
 pub returns-clause-value : goal.returns-clause-value
 returns-clause-value c = (end c.loop-words.invariant c.loop-words-test.false).0

@@ -7,10 +7,10 @@ pub returns-in_default : goal.returns-in_default
 returns-in_default c = no_demand_refused _ _ (sym c.check_set.ensures ∙ c.in_default.is)
 
 pub returns-then-length-gt-MOST_LENGTH : goal.returns-then-length-gt-MOST_LENGTH
-returns-then-length-gt-MOST_LENGTH c = no_demand_past _ _ c.if-length-gt-MOST_LENGTH.true
+returns-then-length-gt-MOST_LENGTH c = no_demand_past _ _ (omega (arith, c.if-length-gt-MOST_LENGTH.true))
 
 pub demand_in-requires-clause-legal : goal.demand_in-requires-clause-legal
 demand_in-requires-clause-legal c = (set_fine _).0 (sym c.check_set.ensures ∙ c.in-Fine.is)
 
 pub returns : goal.returns
-returns c = c.demand_in.ensures ∙ demand_at_lem _ _ ((set_fine _).0 (sym c.check_set.ensures ∙ c.in-Fine.is)) c.if-length-gt-MOST_LENGTH.false
+returns c = c.demand_in.ensures ∙ demand_at_lem _ _ ((set_fine _).0 (sym c.check_set.ensures ∙ c.in-Fine.is)) (omega (arith, c.if-length-gt-MOST_LENGTH.false))
