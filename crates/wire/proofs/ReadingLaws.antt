@@ -3,7 +3,7 @@ use Prim.Native.Nat.{ℕ, zero, suc, ◌+◌, ◌-◌, ◌≤◌}
 use mathlib.Core.Path.{◌≡◌, refl, sym, ap, subst, ◌∙◌}
 use mathlib.Core.Bool.{Bool, true, false, cond}
 use mathlib.Core.List.{List, [], ◌∷◌}
-use mathlib.Core.Logic.{◌↔◌, ⊎_elim}
+use mathlib.Core.Logic.{◌↔◌, inl, inr, ⊎_elim}
 use native.Mathlib.Omega.{arith}
 use types.Run.{OneOf}
 use denote.Enum.Declared.{tag_of}
@@ -100,6 +100,11 @@ NoElement r = OneOf (1 ∷ 2 ∷ []) (tag_of the_type r)
 
 pub no_element : {A : Type 0} (e : Element) → NoElement (answer.Element e) → A
 no_element e = ⊎_elim (λ (z : ◌≡◌ {A = ℕ} 0 1). absurd (omega arith)) (λ (z : ◌≡◌ {A = ℕ} 0 2). absurd (omega arith))
+
+pub is_no_element : (r : Record) → ((e : Element) → r ≡ answer.Element e → ⊥) → NoElement r
+is_no_element (answer.Element e) n = absurd (n e refl)
+is_no_element (answer.Refused r) n = inl refl
+is_no_element answer.End n = inr refl
 
 -- an answer that is no refusal, as a `match` leaves it
 pub no_refusal : (r : Record) → OneOf (0 ∷ 2 ∷ []) (tag_of the_type r) → Fine ≡ check_of r

@@ -32,6 +32,7 @@ fn answer_of(check: Check, e: Element) -> Record
     }
 }
 
+#[tactic(auto, unfolding(crate::specs::Format::is_kind))]
 fn is_kind(kind: u8) -> bool
     ensures { result ≡ is_kind kind }
 {
@@ -39,6 +40,7 @@ fn is_kind(kind: u8) -> bool
 }
 
 // How many bytes a record of this kind has, its kind byte among them.
+#[tactic(auto, unfolding(crate::specs::Format::body_size))]
 fn size_of(kind: u8) -> usize
     ensures { result ≡ suc (body_size kind) }
 {
@@ -60,6 +62,7 @@ fn period_of(kind: u8, first: u32) -> Period
 }
 
 // The element of a record that is there whole. Both kinds are read in one way, with no branch: so the compiler sees that `rest` asks what was asked for the element, and asks once.
+#[tactic(auto, using(crate::proofs::FormatLaws::known_size), unfolding(crate::specs::Format::record_size))]
 fn element_of(bytes: &[u8]) -> Element
     requires { (is_kind (kind_of bytes.now) ≡ true) × (record_size bytes.now ≤ length bytes.now) }
     ensures { result ≡ element_of bytes.now }
@@ -80,6 +83,7 @@ fn element_of(bytes: &[u8]) -> Element
 }
 
 // What the bytes start with, at this place of the whole input; room is how many elements may still come.
+#[tactic(auto, unfolding(crate::specs::Format::record_size, crate::specs::Reading::no_bytes, model::specs::TurnedAway::unless, crate::specs::Reading::check_record, crate::specs::Reading::read_next))]
 pub(crate) fn read_next(room: usize, place: usize, bytes: &[u8]) -> Record
     ensures { result ≡ read_next room place bytes.now }
 {
@@ -101,6 +105,7 @@ pub(crate) fn read_next(room: usize, place: usize, bytes: &[u8]) -> Record
     answer_of(check, e)
 }
 
+#[tactic(auto, unfolding(crate::specs::Reading::read_record))]
 pub fn read_record(bytes: &[u8]) -> Record
     ensures { ReadRecordSays bytes.now result }
 {
