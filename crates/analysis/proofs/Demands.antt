@@ -32,12 +32,15 @@ use Rattle.theory.proofs.SuperpositionIsShort.{compares_at_most}
 use Rattle.theory.proofs.TakenSetsAreLegal.{verdict_is}
 use Rattle.theory.proofs.NothingPastTheCount.{same_exact_answer, same_superposition_answer}
 use Rattle.exact_test.specs.FunctionContracts.{ExactSays}
+use Rattle.exact_test.specs.contracts.exact as exact_contract
 use Rattle.exact_test.proofs.exact as exact_function
 use Rattle.exact_test.proofs.Outcomes.{exact_keeps}
 use Rattle.superposition_test.specs.FunctionContracts.{SuperpositionSays}
+use Rattle.superposition_test.specs.contracts.superposition as superposition_contract
 use Rattle.superposition_test.proofs.superposition as superposition_function
 use Rattle.superposition_test.proofs.Outcomes.{superposition_keeps}
 use Rattle.analysis.specs.Demands.{Input, in_memory, as_bytes, elements, place_in, ExactSaysOf, SuperpositionSaysOf, MeetsDemand2, MeetsDemand3, ExactMeets, SuperpositionMeets}
+use Rattle.analysis.specs.contracts
 use Rattle.analysis.proofs.bytes
 use Rattle.analysis.proofs.HowAnAnalysisEnds.{check_input, input_legal, exact_on, exact_ends, superposition_on, superposition_ends}
 use Rattle.analysis.proofs.Outcomes.{exact_of_bytes_keeps, superposition_of_bytes_keeps}
@@ -141,23 +144,23 @@ module _ (t u : TaskSet) (same : Same t u) (a b : Answer) where
 
 -- OF THEIR CODE: for every argument each ends, and what it returns meets the demands
 -- THEOREM
-pub exact_code_meets : Promises exact_function.ended exact_function.Symbol.routine (λ κs given r after. ExactMeets (in_memory given.0) r)
+pub exact_code_meets : Promises exact_contract.ended exact_function.Symbol.code exact_function.Symbol.name (λ κs given r after. ExactMeets (in_memory given.0) r)
 exact_code_meets = promises_what_follows (λ κs given r after. exact_meets (in_memory given.0) r) exact_keeps
 
 -- THEOREM
 pub exact_of_bytes_code_meets :
-    Promises bytes.exact_of_bytes.ended bytes.exact_of_bytes.Symbol.routine (λ κs given r after. ExactMeets (as_bytes given.0.now) r)
+    Promises contracts.bytes.exact_of_bytes.ended bytes.exact_of_bytes.Symbol.code bytes.exact_of_bytes.Symbol.name (λ κs given r after. ExactMeets (as_bytes given.0.now) r)
 exact_of_bytes_code_meets = promises_what_follows (λ κs given r after. exact_meets (as_bytes given.0.now) r) exact_of_bytes_keeps
 
 -- THEOREM
 pub superposition_code_meets :
-    Promises superposition_function.ended superposition_function.Symbol.routine (λ κs given r after. SuperpositionMeets (in_memory given.0) given.1.0 r)
+    Promises superposition_contract.ended superposition_function.Symbol.code superposition_function.Symbol.name (λ κs given r after. SuperpositionMeets (in_memory given.0) given.1.0 r)
 superposition_code_meets =
     promises_what_follows (λ κs given r after. superposition_meets (in_memory given.0) given.1.0 r) superposition_keeps
 
 -- THEOREM
 pub superposition_of_bytes_code_meets :
-    Promises bytes.superposition_of_bytes.ended bytes.superposition_of_bytes.Symbol.routine (λ κs given r after.
+    Promises contracts.bytes.superposition_of_bytes.ended bytes.superposition_of_bytes.Symbol.code bytes.superposition_of_bytes.Symbol.name (λ κs given r after.
     SuperpositionMeets (as_bytes given.0.now) given.1.0 r)
 superposition_of_bytes_code_meets =
     promises_what_follows (λ κs given r after. superposition_meets (as_bytes given.0.now) given.1.0 r) superposition_of_bytes_keeps

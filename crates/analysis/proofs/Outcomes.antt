@@ -5,14 +5,15 @@ use mathlib.Core.List.{List}
 use Rattle.model.specs.declared.answers.Answer.{Answer}
 use Rattle.model.specs.Promises.{Promises}
 use Rattle.analysis.specs.FunctionContracts.{ExactOfBytesSays, SuperpositionOfBytesSays}
+use Rattle.analysis.specs.contracts
 use Rattle.analysis.proofs.bytes
 
 -- THE CODE KEEPS THEM
-pub exact_of_bytes_keeps : Promises bytes.exact_of_bytes.ended bytes.exact_of_bytes.Symbol.routine (λ κs given r after. ExactOfBytesSays given.0.now r)
+pub exact_of_bytes_keeps : Promises contracts.bytes.exact_of_bytes.ended bytes.exact_of_bytes.Symbol.code bytes.exact_of_bytes.Symbol.name (λ κs given r after. ExactOfBytesSays given.0.now r)
 exact_of_bytes_keeps = record { met = λ M. bytes.exact_of_bytes.Met.met }
 
 pub superposition_of_bytes_keeps :
-    Promises bytes.superposition_of_bytes.ended bytes.superposition_of_bytes.Symbol.routine (λ κs given r after.
+    Promises contracts.bytes.superposition_of_bytes.ended bytes.superposition_of_bytes.Symbol.code bytes.superposition_of_bytes.Symbol.name (λ κs given r after.
     SuperpositionOfBytesSays given.0.now given.1.0 r)
 superposition_of_bytes_keeps = record { met = λ M. bytes.superposition_of_bytes.Met.met }
 

@@ -15,8 +15,8 @@ use wire::{read_set, rest};
 
 // The place of the kind byte of the record with this number.
 fn kind_byte(bytes: &[u8], number: usize) -> usize
-    requires bytes_value { check_records places 0 bytes.now ≡ Fine }
-    requires number_in_bounds { number ≤ length (elements_in places bytes.now) }
+    requires whole { check_records places 0 bytes.now ≡ Fine }
+    requires few { number ≤ length (elements_in places bytes.now) }
     ensures { result ≡ kind_byte bytes.now number }
 {
     let mut left = bytes;
@@ -31,7 +31,7 @@ fn kind_byte(bytes: &[u8], number: usize) -> usize
 
 // Refusal 8 at its kind byte.
 fn in_bytes(bytes: &[u8], answer: Answer) -> Answer
-    requires bytes_value { check_records places 0 bytes.now ≡ Fine }
+    requires whole { check_records places 0 bytes.now ≡ Fine }
     requires placed { Placed (length (elements_in places bytes.now)) answer }
     ensures { result ≡ in_bytes bytes.now answer }
 {
