@@ -1,4 +1,4 @@
-use Rattle.std.proofs.Common.{rules, arith, ◌≡◌, ◌+◌, ◌-◌, length, refl, sym}
+use Rattle.std.proofs.Common.{rules, ◌≡◌, ◌+◌, ◌-◌, length, refl, sym}
 use Rattle.model.specs.Elements.{places, counted}
 use Rattle.exact_test.specs.declared.segments.Swept.{Swept}
 use Rattle.theory.proofs.PlaceLaws.{legal_places}

@@ -1,4 +1,3 @@
-use Rattle.std.proofs.Common.{arith}
 use Rattle.places.proofs.ColumnLaws.{more, end}
 use Rattle.places.proofs.columns.lay.Goals as goal
 
