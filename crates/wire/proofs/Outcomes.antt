@@ -13,13 +13,18 @@ use Rattle.wire.proofs.records
 use Rattle.wire.proofs.reading
 
 -- THE CODE KEEPS THEM
-pub read_record_keeps : Promises contracts.records.read_record.ended records.read_record.Symbol.code records.read_record.Symbol.name (λ κs given r after. ReadRecordSays given.0.now r)
+pub read_record_keeps :
+    Promises contracts.records.read_record.ended records.read_record.Symbol.code records.read_record.Symbol.name
+    (λ κs given r after. ReadRecordSays given.0.now r)
 read_record_keeps = record { met = λ M. records.read_record.Met.met }
 
-pub rest_keeps : Promises contracts.records.rest.ended records.rest.Symbol.code records.rest.Symbol.name (λ κs given r after. IsRest given.0 r)
+pub rest_keeps :
+    Promises contracts.records.rest.ended records.rest.Symbol.code records.rest.Symbol.name (λ κs given r after. IsRest given.0 r)
 rest_keeps = record { met = λ M. records.rest.Met.met }
 
-pub read_set_keeps : Promises contracts.reading.read_set.ended reading.read_set.Symbol.code reading.read_set.Symbol.name (λ κs given r after. ReadSetSays given.0.now r)
+pub read_set_keeps :
+    Promises contracts.reading.read_set.ended reading.read_set.Symbol.code reading.read_set.Symbol.name
+    (λ κs given r after. ReadSetSays given.0.now r)
 read_set_keeps = record { met = λ M. reading.read_set.Met.met }
 
 -- NO TWO OUTCOMES

@@ -6,10 +6,12 @@ use Rattle.model.specs.declared.elements.TaskSet.{TaskSet}
 use Rattle.model.specs.Promises.{Promises}
 use Rattle.writer.specs.declared.writing.Written.{Written}
 use Rattle.writer.specs.FunctionContracts.{WriteSetSays}
+use Rattle.writer.specs.contracts
 use Rattle.writer.proofs.writing
 
 pub write_set_keeps :
-    Promises writing.write_set.ended writing.write_set.Symbol.routine (λ κs given r after. WriteSetSays given.0 given.1.0.now r after.1.0.now)
+    Promises contracts.writing.write_set.ended writing.write_set.Symbol.code writing.write_set.Symbol.name
+    (λ κs given r after. WriteSetSays given.0 given.1.0.now r after.1.0.now)
 write_set_keeps = record { met = λ M. writing.write_set.Met.met }
 
 pub write_is_decided :

@@ -26,6 +26,7 @@ use Rattle.writer.specs.Writing.{bytes_of, check_write, written_by, write_set, b
 use Rattle.model.specs.Buffers.{over}
 use Rattle.writer.specs.Outcomes.{HasNoRoom, IsNotWritten}
 use Rattle.writer.specs.FunctionContracts.{WriteSetSays}
+use Rattle.writer.specs.contracts
 use Rattle.writer.proofs.writing
 use Rattle.writer.proofs.Outcomes.{write_set_keeps}
 
@@ -96,6 +97,7 @@ module _ (t : TaskSet) (out : List ℕ) (a : Written) (after : List ℕ) (says :
 
 -- THEOREM: so its code, where it refuses, leaves the buffer as it was
 pub refused_code_changes_nothing :
-    Promises writing.write_set.ended writing.write_set.Symbol.routine (λ κs given r after. (q : Refusal) → r ≡ Refused q → after.1.0.now ≡ given.1.0.now)
+    Promises contracts.writing.write_set.ended writing.write_set.Symbol.code writing.write_set.Symbol.name
+    (λ κs given r after. (q : Refusal) → r ≡ Refused q → after.1.0.now ≡ given.1.0.now)
 refused_code_changes_nothing =
     promises_what_follows (λ κs given r after says. refused_write_changes_nothing given.0 given.1.0.now r after.1.0.now says) write_set_keeps

@@ -1,7 +1,10 @@
 use Rattle.std.proofs.Common.{sym, ◌∙◌}
 use Rattle.wire.proofs.ReadingLaws.{is_no_element}
-use Rattle.wire.proofs.ReadingASet.{stop, room, next, less, handed_empty, handed_whole}
+use Rattle.wire.proofs.ReadingASet.{start, stop, room, next, less, handed_empty, handed_whole}
 use Rattle.wire.proofs.reading.read_set.Goals as goal
+
+pub loop-e-init : goal.loop-e-init
+loop-e-init c = rw c.empty_set-set.ensures (start _)
 
 pub bounds-set-count : goal.bounds-set-count
 bounds-set-count c = room _ _ _ c.loop-e.invariant (sym c.read_next-found.ensures ∙ c.in-Element.is)
