@@ -5,10 +5,11 @@ use mathlib.Core.List.{List}
 use Rattle.model.specs.declared.answers.Answer.{Answer}
 use Rattle.model.specs.Promises.{Promises}
 use Rattle.printer.specs.FunctionContracts.{PutAnswersSays}
+use Rattle.printer.specs.contracts
 use Rattle.printer.proofs.answers
 
 pub put_answers_keeps :
-    Promises answers.put_answers.ended answers.put_answers.Symbol.routine (λ κs given r after.
+    Promises contracts.answers.put_answers.ended answers.put_answers.Symbol.code answers.put_answers.Symbol.name (λ κs given r after.
     PutAnswersSays given.0 given.1.0 given.1.1.0 given.1.1.1.0 given.1.1.1.1.0.now r after.1.1.1.1.0.now)
 put_answers_keeps = record { met = λ M. answers.put_answers.Met.met }
 

@@ -33,6 +33,7 @@ fn put_lines(out: &mut [u8], exact: Verdict, one: Verdict, two: Verdict, hundred
 }
 
 // The first refusal decides.
+#[tactic(auto, unfolding(crate::specs::Answered::shown_of))]
 fn shown_of(exact: Answer, one: Answer, two: Answer, hundred: Answer) -> Shown
     ensures { result ≡ shown_of exact one two hundred }
 {

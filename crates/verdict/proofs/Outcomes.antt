@@ -4,10 +4,11 @@ use mathlib.Core.Path.{◌≡◌, sym, ◌∙◌}
 use mathlib.Core.List.{List}
 use Rattle.model.specs.Promises.{Promises}
 use Rattle.verdict.specs.FunctionContracts.{PutVerdictsSays}
+use Rattle.verdict.specs.contracts
 use Rattle.verdict.proofs.report
 
 pub put_verdicts_keeps :
-    Promises report.put_verdicts.ended report.put_verdicts.Symbol.routine (λ κs given r after.
+    Promises contracts.report.put_verdicts.ended report.put_verdicts.Symbol.code report.put_verdicts.Symbol.name (λ κs given r after.
     PutVerdictsSays given.0.now given.1.0.now r after.1.0.now)
 put_verdicts_keeps = record { met = λ M. report.put_verdicts.Met.met }
 

@@ -4,78 +4,77 @@
 mod report;
 
 use crate::report::put_verdicts;
-use libc::{STDERR_FILENO, STDIN_FILENO, STDOUT_FILENO};
 use printer::ROOM;
+use std::io::Read;
 use wire::read_set;
 
 // How many bytes were read: as many as there are, up to the buffer's length. -1 where a read failed, since what came before is not the whole input.
-fn read_input(input: &mut [u8]) -> isize {
+fn read_input(stdin: &mut impl Read, input: &mut [u8]) -> isize {
     let mut n: usize = 0;
     while n < input.len() {
-        let more = libc::read(STDIN_FILENO, &mut input[n..]);
-        if more < 0 {
-            return -1;
+        match stdin.read(&mut input[n..]) {
+            Err(_) => {
+                return -1;
+            }
+            Ok(0) => {
+                return n as isize;
+            }
+            Ok(got) => {
+                n = n + got;
+            }
         }
-        let got = io::count(more, &input[n..]);
-        if got == 0 {
-            return n as isize;
-        }
-        n = n + got;
     }
     n as isize
 }
 
-fn read_some_more() -> bool {
+fn read_some_more(stdin: &mut impl Read) -> bool {
     let mut past = io::buffer();
-    0 < libc::read(STDIN_FILENO, &mut past)
+    match stdin.read(&mut past) {
+        Err(_) => false,
+        Ok(got) => 0 < got,
+    }
 }
 
 // What follows the bytes that decide is read and left unused, so that its writer can end its work. A writer that does not end is left after this many reads.
-fn read_on() {
+fn read_on(stdin: &mut impl Read) {
     let mut turns: u32 = 16_384;
-    while 0 < turns && read_some_more() {
+    while 0 < turns && read_some_more(stdin) {
         turns = turns - 1;
     }
 }
 
 // Says how many elements were judged, so that an input cut between two records is seen.
-fn say_how_many(bytes: &[u8]) {
+fn say_how_many(rt: &impl Eprint, bytes: &[u8]) {
     let read = read_set(bytes);
     let set = read.set;
-    io::write_all(STDERR_FILENO, b"verdict: elements judged: ");
-    io::print_decimal(STDERR_FILENO, set.count as u64);
-    io::write_all(STDERR_FILENO, b"\n");
+    let count = set.count;
+    let _ = eprintln!(rt; "verdict: elements judged: {count}");
 }
 
-fn print(bytes: &[u8]) {
+fn print(rt: &(impl Print + Eprint), bytes: &[u8]) {
     let mut text = [0u8; ROOM];
     let end = put_verdicts(bytes, &mut text);
-    if !io::write_all(STDOUT_FILENO, &text[..end]) {
-        io::write_all(
-            STDERR_FILENO,
-            b"verdict: standard output could not be written\n",
-        );
+    if rt.write_all(&text[..end]).is_err() {
+        let _ = eprintln!(rt; "verdict: standard output could not be written");
         return;
     }
     // "exact", and not "refused"
     if text[0] == b'e' {
-        say_how_many(bytes);
+        say_how_many(rt, bytes);
     }
 }
 
-fn main() {
+fn main(rt: HostRuntime) {
+    let mut stdin = rt.stdin();
     let mut input = io::buffer();
-    let got = read_input(&mut input);
+    let got = read_input(&mut stdin, &mut input);
     if got < 0 {
-        io::write_all(
-            STDERR_FILENO,
-            b"verdict: standard input could not be read\n",
-        );
+        let _ = eprintln!(rt; "verdict: standard input could not be read");
         return;
     }
     let n = io::count(got, &input);
-    print(&input[..n]);
+    print(&rt, &input[..n]);
     if n == input.len() {
-        read_on();
+        read_on(&mut stdin);
     }
 }

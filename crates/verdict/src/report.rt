@@ -5,6 +5,7 @@ use analysis::{exact_of_bytes, superposition_of_bytes};
 use printer::{ROOM, put_answers};
 
 // Puts what is printed for these bytes at the start of out, and answers how many bytes that are.
+#[tactic(auto, unfolding(crate::specs::Printed::printed))]
 pub(crate) fn put_verdicts(bytes: &[u8], out: &mut [u8; ROOM]) -> usize
     ensures { PutVerdictsSays bytes.now out.old result out.new }
 {
