@@ -6,21 +6,22 @@ use Rattle.model.specs.declared.answers.Numbers.{Numbers}
 use Rattle.model.specs.Promises.{Promises}
 use Rattle.capi.specs.Calls.{CallAnswers}
 use Rattle.capi.specs.FunctionContracts.{ExactCallSays, SuperpositionCallSays, RewriteCallSays}
+use Rattle.capi.specs.contracts
 use Rattle.capi.proofs.calls
 
 -- THE CODE KEEPS THEM
 pub exact_call_keeps :
-    Promises calls.simaurkoi_exact.ended calls.simaurkoi_exact.Symbol.routine (λ κs given r after.
+    Promises contracts.calls.simaurkoi_exact.ended calls.simaurkoi_exact.Symbol.code calls.simaurkoi_exact.Symbol.name (λ κs given r after.
     ExactCallSays given.0.now given.1.0.now r after.1.0.now)
 exact_call_keeps = record { met = λ M. calls.simaurkoi_exact.Met.met }
 
 pub superposition_call_keeps :
-    Promises calls.simaurkoi_superposition.ended calls.simaurkoi_superposition.Symbol.routine (λ κs given r after.
+    Promises contracts.calls.simaurkoi_superposition.ended calls.simaurkoi_superposition.Symbol.code calls.simaurkoi_superposition.Symbol.name (λ κs given r after.
     SuperpositionCallSays given.0.now given.1.0 given.1.1.0.now r after.1.1.0.now)
 superposition_call_keeps = record { met = λ M. calls.simaurkoi_superposition.Met.met }
 
 pub rewrite_call_keeps :
-    Promises calls.simaurkoi_rewrite.ended calls.simaurkoi_rewrite.Symbol.routine (λ κs given r after.
+    Promises contracts.calls.simaurkoi_rewrite.ended calls.simaurkoi_rewrite.Symbol.code calls.simaurkoi_rewrite.Symbol.name (λ κs given r after.
     RewriteCallSays given.0.now given.1.0.now given.1.1.0.now r after.1.0.now after.1.1.0.now)
 rewrite_call_keeps = record { met = λ M. calls.simaurkoi_rewrite.Met.met }
 

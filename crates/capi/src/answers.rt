@@ -48,6 +48,7 @@ pub(crate) fn put_numbers(answer: &mut [u64], n: Numbers) -> u32
     n.refusal
 }
 
+#[tactic(auto, unfolding(crate::specs::Calls::rewrite_numbers))]
 pub(crate) fn rewrite_numbers(done: Written) -> Numbers
     ensures { result ≡ rewrite_numbers done }
 {
