@@ -6,7 +6,8 @@ ghost use Rattle.capi.specs.FunctionContracts.{ExactCallSays, SuperpositionCallS
 use crate::answers::{numbers_of, put_numbers, rewrite_numbers};
 use analysis::{exact_of_bytes, superposition_of_bytes};
 use model::Check;
-use wire::read_set;
+use model::elements::empty_set;
+use wire::read_into;
 use writer::{Written, write_set};
 
 const ANSWER_PLACES: usize = 6;
@@ -42,9 +43,9 @@ pub extern "C" fn simaurkoi_superposition(set: &[u8], k: u32, answer: &mut [u64]
 fn read_then_write(set: &[u8], out: &mut [u8]) -> Written
     ensures { (result ≡ rewrite set.now (length out.old)) × (out.new ≡ rewritten set.now out.old) }
 {
-    let read = read_set(set);
-    let check = read.check;
-    let done = write_set(read.set, out);
+    let mut read = empty_set();
+    let check = read_into(set, &mut read);
+    let done = write_set(read, out);
     match check {
         Check::Fine => done,
         Check::TurnedAway(r) => Written::Refused(r),

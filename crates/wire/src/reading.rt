@@ -1,7 +1,7 @@
 // A set read from bytes.
 ghost use Rattle.std.specs.Prelude.{◌≡◌};
 ghost use Rattle.wire.specs.Reading.{check_of};
-ghost use Rattle.wire.specs.FunctionContracts.{ReadSetSays};
+ghost use Rattle.wire.specs.FunctionContracts.{ReadSetSays, ReadIntoSays};
 
 use crate::records::{Record, read_next, rest};
 use model::elements::{PLACES, empty_set};
@@ -22,10 +22,11 @@ fn check_of(found: Record) -> Check
     }
 }
 
-pub fn read_set(bytes: &[u8]) -> ReadSet
-    ensures { ReadSetSays bytes.now result }
+// Reads into a lent set, whatever it held: a caller that has one needs no second for what is read.
+pub fn read_into(bytes: &[u8], set: &mut TaskSet) -> Check
+    ensures { ReadIntoSays bytes.now result set.new }
 {
-    let mut set = empty_set();
+    *set = empty_set();
     let mut left = bytes;
     let check = loop {
         let count = set.count;
@@ -40,7 +41,15 @@ pub fn read_set(bytes: &[u8]) -> ReadSet
         set.count = count + 1;
     };
     if let Check::TurnedAway(_) = check {
-        set = empty_set();
+        *set = empty_set();
     }
+    check
+}
+
+pub fn read_set(bytes: &[u8]) -> ReadSet
+    ensures { ReadSetSays bytes.now result }
+{
+    let mut set = empty_set();
+    let check = read_into(bytes, &mut set);
     ReadSet { check, set }
 }
