@@ -1,7 +1,7 @@
 /* Simaurkoi for C and C++: can one preemptive processor under earliest deadline first keep every
    deadline of a set of tasks?
 
-   Three functions. They stand in target/staticlib/libcapi.a, which `rt staticlib capi` writes, for
+   Three functions. They stand in crates/capi/out/libcapi.a, which `rt lib` writes in crates/capi, for
    x86-64 with the System V calling convention. The archive needs memcpy and memset and nothing else.
    What they return, and what they leave in all that they are lent, is proved for every input, as
    long as the caller keeps to "What the caller owes". Trusted is the compiler.
