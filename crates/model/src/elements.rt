@@ -1,4 +1,7 @@
 // Document 01, "Elements": the element, the set in memory, and the limits of its table.
+ghost use Rattle.std.specs.Prelude.{◌≡◌, ◌≤◌, true, length};
+ghost use Rattle.model.specs.Over.{all_over};
+ghost use Rattle.model.specs.Elements.{is_legal, places, counted};
 ghost use Rattle.model.specs.FunctionContracts.{EmptySetSays, FirstDueSays};
 
 pub const MOST_PERIOD: u32 = 16_777_216;
@@ -34,6 +37,27 @@ pub struct Element {
 pub struct TaskSet {
     pub count: usize,
     pub table: [Element; PLACES],
+}
+
+impl TaskSet {
+    // The counted places, in table order; all of them where the count is above their number.
+    pub fn counted(&self) -> &[Element]
+        ensures { result.now ≡ counted self.entry.now }
+    {
+        if PLACES < self.count {
+            &self.table
+        } else {
+            &self.table[..self.count]
+        }
+    }
+}
+
+// The elements of a legal set.
+#[derive(Clone, Copy)]
+pub struct LegalSet<'a> {
+    pub elements: &'a [Element],
+    ghost legal: { all_over elements.now is_legal ≡ true },
+    ghost few: { length elements.now ≤ places },
 }
 
 // What stands past the count: a single event of all zeros. Since it is a constant, a table of it is cleared where it lies.

@@ -6,4 +6,4 @@ pub mod checks;
 pub mod elements;
 
 pub use answers::{Answer, Check, Numbers, Refusal, Values, Verdict};
-pub use elements::{Element, Period, TaskSet};
+pub use elements::{Element, LegalSet, Period, TaskSet};
