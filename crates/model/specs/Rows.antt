@@ -2,6 +2,9 @@
 use Rattle.std.specs.Prelude.{ℕ, ◌≤◌, ◌<◌, ◌≡◌, Bool, true, false, List, [], ◌∷◌, ◌⊎◌, length, take, get_or}
 use Rattle.model.specs.declared.elements.Element.{Element}
 use Rattle.model.specs.declared.elements.TaskSet.{TaskSet}
+use Rattle.model.specs.declared.answers.Reason.{Reason}
+use Rattle.model.specs.Answers.{Check, number_of}
+use Rattle.model.specs.TurnedAway.{turned}
 use Rattle.model.specs.Elements.{places, is_period, is_offset, is_deadline, is_cost, AllLegal, filler, counted}
 
 -- 4 to 7: "period", "offset", "deadline", "cost out of range": whether each lets pass
@@ -33,3 +36,9 @@ pub record HasBadValue (t : TaskSet) (number place : ℕ) : Type 0 where
 
 abbrev pub IsTurnedAway : TaskSet → ℕ → ℕ → Type 0
 IsTurnedAway t number place = HasTooMany t number place ⊎ HasBadValue t number place
+
+-- what a check finds is a refusal by this number at this place
+pub record Turns (c : Check) (number place : ℕ) : Type 0 where
+  pub reason : Reason
+  pub numbered : number_of reason ≡ number
+  pub by : c ≡ turned reason place
