@@ -18,7 +18,7 @@ use Rattle.model.specs.declared.answers.Refusal.{Refusal}
 use Rattle.model.specs.Answers.{Check, number_of}
 use Rattle.model.specs.Elements.{places, is_cost, filler, counted}
 use Rattle.model.specs.TurnedAway.{turned, unless, ◌then◌, check_element, check_elements, check_set}
-use Rattle.model.specs.Rows.{element_rows, IsFirstRow, HasTooMany, HasBadValue, IsTurnedAway, Turns}
+use Rattle.model.specs.Rows.{element_rows, IsFirstRow, HasTooMany, HasBadValue, IsTurnedAway, IsRefusal}
 use Rattle.model.proofs.Cases.{clash}
 use Rattle.model.proofs.TurnedAwayLaws.{turned_tells, then_turned, unless_turned_lem, unless_fine, elements_turned, turned_elements}
 
@@ -83,12 +83,12 @@ first_decides (b ∷ bs) n place (suc i) h =
 
 -- a check that goes by these rows, whose numbers are reasons', turns away by the first, and exactly then
 module _ (c : Check) (place : ℕ) (bs : List Bool) (known : (number : ℕ) → IsFirstRow bs number → number_of (reason_at number) ≡ number) (h : c ≡ in_order 0 place bs) where
-  pub turned_by : {r : Refusal} → c ≡ Err r → (number : ℕ) × IsFirstRow bs number × Turns (Err r) number place
+  pub turned_by : {r : Refusal} → c ≡ Err r → (number : ℕ) × IsFirstRow bs number × IsRefusal {A = Unit {0}} (Err r) number place
   turned_by g =
       let k = order_tells bs 0 place (sym h ∙ g) in
       (k.0, k.2, record { reason = reason_at k.0; numbered = known k.0 k.2; by = k.1 ∙ numbered_as place (omega arith) })
 
-  pub turns : (number : ℕ) → IsFirstRow bs number → Turns c number place
+  pub turns : (number : ℕ) → IsFirstRow bs number → IsRefusal c number place
   turns number k = record { reason = reason_at number; numbered = known number k; by = h ∙ first_decides bs 0 place number k ∙ numbered_as place (omega arith) }
 
 -- AN ELEMENT
@@ -113,7 +113,7 @@ module _ (t : TaskSet) (number place : ℕ) where
   abbrev count_check : Check
   count_check = unless (leb t.count places) TooManyElements places
 
-  many_refused : Turns count_check number place ↔ HasTooMany t number place
+  many_refused : IsRefusal count_check number place ↔ HasTooMany t number place
   many_refused = (
     λ p. let u = (unless_turned_lem (leb t.count places) TooManyElements places).0 p.by in
         let told = turned_tells u.1 in
@@ -121,10 +121,10 @@ module _ (t : TaskSet) (number place : ℕ) where
     λ k. record { reason = TooManyElements; numbered = sym k.by; by = (unless_turned_lem (leb t.count places) TooManyElements places).1 (lt-leb t.count places k.many, ap (turned TooManyElements) (sym k.at)) },
   )
 
-  value_refused : ((count_check ≡ Ok tt) × Turns (check_elements 0 (counted t)) number place) ↔ HasBadValue t number place
+  value_refused : ((count_check ≡ Ok tt) × IsRefusal (check_elements 0 (counted t)) number place) ↔ HasBadValue t number place
   value_refused = (found, back)
     where
-      found : (count_check ≡ Ok tt) × Turns (check_elements 0 (counted t)) number place → HasBadValue t number place
+      found : (count_check ≡ Ok tt) × IsRefusal (check_elements 0 (counted t)) number place → HasBadValue t number place
       found p =
           let k = elements_turned (counted t) filler 0 p.1.by in
           let e = get_or (counted t) k.0 filler in
@@ -136,7 +136,7 @@ module _ (t : TaskSet) (number place : ℕ) where
           subst (λ n. HasBadValue t n place) same
           (subst (HasBadValue t v.0) there (record { few = few; counts = k.1.within; before = k.1.before; row = v.1 }))
 
-      back : HasBadValue t number place → (count_check ≡ Ok tt) × Turns (check_elements 0 (counted t)) number place
+      back : HasBadValue t number place → (count_check ≡ Ok tt) × IsRefusal (check_elements 0 (counted t)) number place
       back k =
           let there : 0 + place ≡ place = omega arith in
           let e = get_or (counted t) place filler in
@@ -150,7 +150,7 @@ module _ (t : TaskSet) (number place : ℕ) where
           )
 
   -- THEOREM: a set is turned away before 8 exactly as document 01 says: by 3, else by its first bad value
-  pub set_is_turned_away : Turns (check_set t) number place ↔ IsTurnedAway t number place
+  pub set_is_turned_away : IsRefusal (check_set t) number place ↔ IsTurnedAway t number place
   unfolding check_set
   set_is_turned_away = (
     λ h. ⊎_elim (λ p. inl (many_refused.0 (record { reason = h.reason; numbered = h.numbered; by = p })))
