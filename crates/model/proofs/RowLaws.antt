@@ -9,7 +9,7 @@ use native.Mathlib.Omega.{arith}
 use lib.Dec.{leb}
 use lib.ListN.{get_or}
 use borrow.Author.Tests.{leb-true, leb-false, le-leb, lt-leb}
-use Rattle.std.specs.Prelude.{Ok, Err}
+use Rattle.std.specs.Prelude.{Result, Ok, Err}
 use Rattle.model.specs.declared.elements.Element.{Element}
 use Rattle.model.specs.declared.elements.TaskSet.{TaskSet}
 use Rattle.model.specs.declared.answers.Reason.{Reason}
@@ -42,6 +42,12 @@ reason_back CostOutOfRange = refl
 reason_back HyperperiodAboveLimit = refl
 reason_back KOutOfRange = refl
 reason_back BufferTooShort = refl
+
+-- a refusal by the number of a reason is for this reason
+pub refused_for : {A : Type 0} {r : Result A Refusal} (reason : Reason) {place : ℕ} → IsRefusal r (number_of reason) place → r ≡ Err (record { reason = reason; place = place })
+refused_for reason {place} h =
+    let same = sym (reason_back h.reason) ∙ ap reason_at h.numbered ∙ reason_back reason in
+    h.by ∙ ap (λ q. Err (record { reason = q; place = place })) same
 
 -- rows in order, numbered from n on: the first that does not let pass decides
 unfoldable pub in_order : ℕ → ℕ → List Bool → Check
