@@ -8,12 +8,13 @@ use native.Mathlib.Omega.{arith}
 use lib.Dec.{leb}
 use lib.ListN.{length, drop, length-drop}
 use borrow.Author.Tests.{ne_eqb}
+use Rattle.std.specs.Prelude.{Ok, Err}
 use Rattle.model.specs.declared.elements.Element.{Element}
+use Rattle.model.specs.declared.answers.Reason.{Reason}
+use Rattle.model.specs.declared.answers.Reason.TheVariants.{UnknownKind, RecordCut, TooManyElements, PeriodOutOfRange, OffsetOutOfRange, DeadlineOutOfRange, CostOutOfRange, HyperperiodAboveLimit, KOutOfRange, BufferTooShort}
 use Rattle.model.specs.declared.answers.Refusal.{Refusal}
-use Rattle.model.specs.declared.answers.Check.TheVariants.{Fine}
 use Rattle.model.specs.declared.answers.Verdict.{Verdict}
-use Rattle.model.specs.declared.answers.Answer.{Answer}
-use Rattle.model.specs.declared.answers.Answer.TheVariants.{Refused}
+use Rattle.model.specs.Answers.{Answer}
 use Rattle.model.specs.Elements.{places, most_h}
 use Rattle.model.specs.Demand.{H}
 use Rattle.model.specs.TurnedAway.{turned, unless, first_above, check_h, answered, analysis}
@@ -23,7 +24,7 @@ use Rattle.wire.specs.Format.{record_size}
 use Rattle.wire.specs.Reading.{no_bytes, rest_of, check_records, elements_in}
 use Rattle.wire.proofs.ReadingLaws.{rest_element, records_rest, elements_end, elements_next}
 use Rattle.analysis.specs.InBytes.{kind_byte}
-use Rattle.analysis.specs.LegalSets.{in_bytes, Placed}
+use Rattle.analysis.specs.LegalSets.{answer_of, place_in_bytes, refusal_in_bytes, in_bytes, Placed}
 
 -- THE KIND BYTE
 pub record Passing (b : List ℕ) (number i : ℕ) (left : List ℕ) : Type 0 where
@@ -31,11 +32,11 @@ pub record Passing (b : List ℕ) (number i : ℕ) (left : List ℕ) : Type 0 wh
   pub within : length left ≤ length b
   pub room : ℕ
   pub place : ℕ
-  pub fine : check_records room place left ≡ Fine
+  pub fine : check_records room place left ≡ Ok tt
   pub more : number ≤ i + length (elements_in room left)
   pub same : kind_byte b number ≡ (length b - length left) + kind_byte left (number - i)
 
-pub start : (b : List ℕ) (number : ℕ) → check_records places 0 b ≡ Fine → number ≤ length (elements_in places b) → Passing b number 0 b
+pub start : (b : List ℕ) (number : ℕ) → check_records places 0 b ≡ Ok tt → number ≤ length (elements_in places b) → Passing b number 0 b
 start b number h l =
     record {
       upto = omega arith;
@@ -59,7 +60,7 @@ module _ (b : List ℕ) (number i : ℕ) (left : List ℕ) (k : Passing b number
   pub next : i < number → Passing b number (i + 1) (rest_of left)
   next l = go k.room k.fine k.more
     where
-      go : (room : ℕ) → check_records room k.place left ≡ Fine → number ≤ i + length (elements_in room left) → Passing b number (i + 1) (rest_of left)
+      go : (room : ℕ) → check_records room k.place left ≡ Ok tt → number ≤ i + length (elements_in room left) → Passing b number (i + 1) (rest_of left)
       go zero h m = absurd (omega (arith, no_room left))
       go (suc room) h m = ⊎_elim
           (λ o. absurd (omega (arith, ap length (elements_end (suc room) left o))))
@@ -84,35 +85,44 @@ module _ (b : List ℕ) (number i : ℕ) (left : List ℕ) (k : Passing b number
   end l = let e : number - i ≡ 0 = omega (arith, k.upto) in sym (k.same ∙ rw e (omega arith))
 
 -- 8 IN BYTES
-module _ (a : Answer) (r : Refusal) (eq : a ≡ Refused r) where
-  pub other_stays : (b : List ℕ) → (r.number ≡ 8 → ⊥) → Refused r ≡ in_bytes b a
-  other_stays b n = rw (eq, ne_eqb r.number 8 n)
+stays : (b : List ℕ) (reason : Reason) (place : ℕ) → (reason ≡ HyperperiodAboveLimit → ⊥) → place ≡ place_in_bytes b reason place
+stays b UnknownKind place n = refl
+stays b RecordCut place n = refl
+stays b TooManyElements place n = refl
+stays b PeriodOutOfRange place n = refl
+stays b OffsetOutOfRange place n = refl
+stays b DeadlineOutOfRange place n = refl
+stays b CostOutOfRange place n = refl
+stays b HyperperiodAboveLimit place n = absurd (n refl)
+stays b KOutOfRange place n = refl
+stays b BufferTooShort place n = refl
 
-  pub eight_moves : (b : List ℕ) → r.number ≡ 8 → Refused (record { number = 8; place = kind_byte b r.place }) ≡ in_bytes b a
-  eight_moves b n = rw (eq, n)
+module _ (b : List ℕ) (r : Refusal) where
+  pub other_stays : (r.reason ≡ HyperperiodAboveLimit → ⊥) → r ≡ refusal_in_bytes b r
+  other_stays n = ap (λ p. record { reason = r.reason; place = p }) (stays b r.reason r.place n)
 
-  pub eight_placed : (n : ℕ) → Placed n a → r.number ≡ 8 → r.place ≤ n
-  eight_placed n p = rw eq at p
+  pub eight_moves : r.reason ≡ HyperperiodAboveLimit → record { reason = r.reason; place = kind_byte b r.place } ≡ refusal_in_bytes b r
+  eight_moves n = rw n refl
 
 pub first_within : (s : List Element) → first_above s ≤ length s
 unfolding first_above
 first_within s = least_most _ (length s)
 
 module _ (verdict : List Element → Verdict) (s : List Element) where
-  pub answer_placed : Placed (length s) (analysis Fine (λ place. place) verdict s)
+  pub answer_placed : Placed (length s) (answer_of verdict s)
   unfolding analysis check_h unless
   answer_placed = go (leb (H s) most_h)
     where
-      go : (small : Bool) → Placed (length s) (answered (cond small Fine (turned 8 (first_above s))) (verdict s))
+      go : (small : Bool) → Placed (length s) (answered (cond small (Ok tt) (turned HyperperiodAboveLimit (first_above s))) (verdict s))
       go false = λ n. first_within s
       go true = tt
 
-  pub answer_in_bytes : (b : List ℕ) → in_bytes b (analysis Fine (λ place. place) verdict s) ≡ analysis Fine (kind_byte b) verdict s
+  pub answer_in_bytes : (b : List ℕ) → in_bytes b (answer_of verdict s) ≡ analysis (Ok tt) (kind_byte b) verdict s
   unfolding analysis check_h unless
   answer_in_bytes b = go (leb (H s) most_h)
     where
       go : (small : Bool) →
-          in_bytes b (answered (cond small Fine (turned 8 (first_above s))) (verdict s)) ≡
-          answered (cond small Fine (turned 8 (kind_byte b (first_above s)))) (verdict s)
+          in_bytes b (answered (cond small (Ok tt) (turned HyperperiodAboveLimit (first_above s))) (verdict s)) ≡
+          answered (cond small (Ok tt) (turned HyperperiodAboveLimit (kind_byte b (first_above s)))) (verdict s)
       go false = refl
       go true = refl

@@ -4,17 +4,15 @@ use mathlib.Core.Path.{◌≡◌, refl, sym, ◌∙◌}
 use mathlib.Core.List.{List}
 use mathlib.Core.Logic.{⊎_elim}
 use native.Mathlib.Omega.{arith}
+use Rattle.std.specs.Prelude.{Ok}
 use Rattle.model.specs.declared.elements.Element.{Element}
 use Rattle.model.specs.declared.elements.TaskSet.{TaskSet}
-use Rattle.model.specs.declared.answers.Check.TheVariants.{Fine}
 use Rattle.model.specs.declared.answers.Verdict.{Verdict}
 use Rattle.model.specs.declared.answers.Verdict.TheVariants.{Passes}
-use Rattle.model.specs.declared.answers.Answer.{Answer}
-use Rattle.model.specs.declared.answers.Answer.TheVariants.{Given}
 use Rattle.model.specs.Number.{how_many}
 use Rattle.model.specs.Elements.{AllLegal, Same}
 use Rattle.model.specs.Demand.{F, H, D, Q, is_test}
-use Rattle.model.specs.Answers.{values}
+use Rattle.model.specs.Answers.{values, Answer}
 use Rattle.model.specs.ExactTest.{exact}
 use Rattle.model.specs.Superposition.{superposition}
 use Rattle.model.specs.TurnedAway.{◌then◌, check_h, check_k, analysis}
@@ -87,15 +85,15 @@ module _ (s : List Element) (legal : AllLegal s) where
 
 -- OF WHATEVER THEY ANSWER
 -- a verdict that is given is the definition's, of elements that are legal
-exact_verdict : (x : Input) (a : Answer) → ExactSaysOf x a → (v : Verdict) → a ≡ Given v → AllLegal (elements x) × (v ≡ exact (elements x))
+exact_verdict : (x : Input) (a : Answer) → ExactSaysOf x a → (v : Verdict) → a ≡ Ok v → AllLegal (elements x) × (v ≡ exact (elements x))
 exact_verdict x a says v e =
     let g = verdict_is (check_input x) (place_in x) exact (elements x) v (sym (exact_on x a says) ∙ e) in
     ((input_legal x g.0).0, g.2)
 
 superposition_verdict :
     (x : Input) (k : ℕ) (a : Answer) →
-    SuperpositionSaysOf x k a → (v : Verdict) → a ≡ Given v →
-    (check_input x ≡ Fine) × (check_h (place_in x) (elements x) ≡ Fine) × (1 ≤ k) × (v ≡ superposition k (elements x))
+    SuperpositionSaysOf x k a → (v : Verdict) → a ≡ Ok v →
+    (check_input x ≡ Ok tt) × (check_h (place_in x) (elements x) ≡ Ok tt) × (1 ≤ k) × (v ≡ superposition k (elements x))
 superposition_verdict x k a says v e =
     let g = verdict_is (check_k k then check_input x) (place_in x) (superposition k) (elements x) v (sym (superposition_on x k a says) ∙ e) in
     let f = (then_fine (check_k k) (check_input x)).0 g.0 in
@@ -119,8 +117,8 @@ superposition_meets x k a says = record {
 pub exact_passes_if_superposition_does :
     (x : Input) (k : ℕ) (a b : Answer) →
     SuperpositionSaysOf x k a → ExactSaysOf x b →
-    (v : Verdict) → a ≡ Given v → (values v).verdict ≡ 0 →
-    b ≡ Given (Passes (how_many (is_test (elements x)) (F (elements x) + H (elements x))))
+    (v : Verdict) → a ≡ Ok v → (values v).verdict ≡ 0 →
+    b ≡ Ok (Passes (how_many (is_test (elements x)) (F (elements x) + H (elements x))))
 unfolding analysis
 exact_passes_if_superposition_does x k a b p q v e passed =
     let s = elements x in

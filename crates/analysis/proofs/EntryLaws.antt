@@ -1,91 +1,60 @@
 -- The entry points: what each answers for a set that is refused before 8, and for one that is taken. Assumes nothing.
 use Prim.Native.Nat.{ℕ}
 use mathlib.Core.Path.{◌≡◌, sym, ap, ◌∙◌}
-use mathlib.Core.Bool.{true}
 use mathlib.Core.List.{List}
+use Rattle.std.specs.Prelude.{Ok, Err}
+use Rattle.model.specs.declared.elements.Element.{Element}
 use Rattle.model.specs.declared.elements.TaskSet.{TaskSet}
 use Rattle.model.specs.declared.answers.Refusal.{Refusal}
-use Rattle.model.specs.declared.answers.Check.TheVariants.{Fine, TurnedAway}
-use Rattle.model.specs.declared.answers.Answer.TheVariants.{Refused}
-use Rattle.model.specs.Elements.{places, counted, is_legal_set, set_of}
-use Rattle.model.specs.ExactTest.{exact}
+use Rattle.model.specs.declared.answers.Verdict.{Verdict}
+use Rattle.model.specs.Answers.{Answer, Check}
+use Rattle.model.specs.Elements.{places, counted}
 use Rattle.model.specs.Superposition.{superposition}
-use Rattle.model.specs.TurnedAway.{◌then◌, check_set, check_k, exact_answer, superposition_answer}
-use Rattle.wire.specs.declared.reading.ReadSet.{ReadSet}
+use Rattle.model.specs.TurnedAway.{◌then◌, check_set, check_k, analysis}
 use Rattle.wire.specs.Reading.{check_records, elements_in, read_set}
 use Rattle.model.proofs.ElementLaws.{legal_set, set_counted}
 use Rattle.model.proofs.TurnedAwayLaws.{set_fine}
 use Rattle.theory.proofs.AnswerLaws.{refused_before, fine_before}
-use Rattle.wire.proofs.ReadingLaws.{elements_legal, read_check, read_elements}
-use Rattle.analysis.specs.InBytes.{kind_byte, exact_of_bytes, superposition_of_bytes}
-use Rattle.analysis.specs.LegalSets.{exact_of, superposition_of, in_bytes}
+use Rattle.wire.proofs.ReadingLaws.{elements_legal, read_elements}
+use Rattle.analysis.specs.InBytes.{kind_byte}
+use Rattle.analysis.specs.LegalSets.{answer_of, in_bytes}
 use Rattle.analysis.proofs.ByteLaws.{answer_in_bytes}
 
--- A SET IN MEMORY
-module _ (t : TaskSet) where
-  pub exact_taken : check_set t ≡ Fine → exact_of (counted t) ≡ exact_answer t
-  unfolding exact_answer
-  exact_taken h = fine_before (check_set t) (λ place. place) exact (counted t) h
+-- A TEST OF BYTES, whatever its verdict
+module _ (verdict : List Element → Verdict) where
+  -- a set in memory whose count and values are fine
+  pub set_taken : (t : TaskSet) → check_set t ≡ Ok tt → answer_of verdict (counted t) ≡ analysis (check_set t) (λ place. place) verdict (counted t)
+  set_taken t h = fine_before (check_set t) (λ place. place) verdict (counted t) h
 
-  module _ (k : ℕ) where
-    pub superposition_taken : (check_k k then check_set t) ≡ Fine → superposition_of k (counted t) ≡ superposition_answer k t
-    unfolding superposition_answer
-    superposition_taken h = fine_before (check_k k then check_set t) (λ place. place) (superposition k) (counted t) h
+  module _ (b : List ℕ) where
+    abbrev answer : Answer
+    answer = analysis (check_records places 0 b) (kind_byte b) verdict (elements_in places b)
 
--- BYTES: the set that is read where none is refused
-pub record Read (b : List ℕ) (t : TaskSet) : Type 0 where
-  pub fine : check_records places 0 b ≡ Fine
-  pub elements : counted t ≡ elements_in places b
-  pub legal : is_legal_set t ≡ true
+    pub bytes_taken : check_records places 0 b ≡ Ok tt → in_bytes b (answer_of verdict (elements_in places b)) ≡ answer
+    bytes_taken h = answer_in_bytes verdict (elements_in places b) b ∙ fine_before (check_records places 0 b) (kind_byte b) verdict (elements_in places b) h
 
-pub read_checks : (b : List ℕ) {x : ReadSet} → x ≡ read_set b → x.check ≡ check_records places 0 b
-read_checks b e = ap (λ x. x.check) e ∙ read_check b
+    pub bytes_refused : {r : Refusal} → Err r ≡ check_records places 0 b → Err r ≡ answer
+    bytes_refused h = refused_before (check_records places 0 b) (kind_byte b) verdict (elements_in places b) (sym h)
 
-pub read_taken : (b : List ℕ) {x : ReadSet} → x ≡ read_set b → check_records places 0 b ≡ Fine → Read b x.set
-read_taken b {x} e fine =
-    let set : x.set ≡ set_of (elements_in places b) = ap (λ x. x.set) e ∙ read_elements b fine in
-    let legal = elements_legal places 0 b fine in
-    let elements = ap counted set ∙ set_counted (elements_in places b) in
-    record {
-      fine = fine;
-      elements = elements;
-      legal = (legal_set x.set).1 (rw (ap (λ t. t.count) set) legal.1, rw elements legal.0);
-    }
+    -- the set that is read where no record is refused
+    module _ (t : TaskSet) (fine : check_records places 0 b ≡ Ok tt) (read : t ≡ (read_set b).set) where
+      elements_read : counted t ≡ elements_in places b
+      elements_read = ap counted (read ∙ read_elements b fine) ∙ set_counted (elements_in places b)
 
-module _ {b : List ℕ} {t : TaskSet} (r : Read b t) where
-  set_is_fine : check_set t ≡ Fine
-  set_is_fine = (set_fine t).1 r.legal
+      set_is_fine : check_set t ≡ Ok tt
+      set_is_fine =
+          let legal = elements_legal places 0 b fine in
+          let set = read ∙ read_elements b fine in
+          (set_fine t).1 ((legal_set t).1 (rw (ap (λ u. u.count) set) legal.1, rw elements_read legal.0))
 
-  pub exact_read : exact_answer t ≡ exact_of (elements_in places b)
-  exact_read = sym (exact_taken t set_is_fine) ∙ ap exact_of r.elements
+      pub answer_read : analysis (check_set t) (λ place. place) verdict (counted t) ≡ answer_of verdict (elements_in places b)
+      answer_read = sym (set_taken t set_is_fine) ∙ ap (answer_of verdict) elements_read
 
-  pub superposition_read : (k : ℕ) → check_k k ≡ Fine → superposition_answer k t ≡ superposition_of k (elements_in places b)
-  superposition_read k h = sym (superposition_taken t k (rw (h, set_is_fine))) ∙ ap (superposition_of k) r.elements
+-- k LOOKED AT FIRST
+pub k_refused_first :
+    (k : ℕ) (rest : Check) (place_of : ℕ → ℕ) (s : List Element) {r : Refusal} →
+    Err r ≡ check_k k → Err r ≡ analysis (check_k k then rest) place_of (superposition k) s
+k_refused_first k rest place_of s h = refused_before (check_k k then rest) place_of (superposition k) s (rw (sym h))
 
-module _ (b : List ℕ) where
-  pub exact_bytes_refused : {r : Refusal} → check_records places 0 b ≡ TurnedAway r → Refused r ≡ exact_of_bytes b
-  unfolding exact_of_bytes
-  exact_bytes_refused h = refused_before (check_records places 0 b) (kind_byte b) exact (elements_in places b) h
-
-  pub exact_bytes_taken : check_records places 0 b ≡ Fine → in_bytes b (exact_of (elements_in places b)) ≡ exact_of_bytes b
-  unfolding exact_of_bytes
-  exact_bytes_taken h =
-      answer_in_bytes exact (elements_in places b) b ∙ fine_before (check_records places 0 b) (kind_byte b) exact (elements_in places b) h
-
-  module _ (k : ℕ) where
-    pub superposition_bytes_refused_k : {r : Refusal} → check_k k ≡ TurnedAway r → Refused r ≡ superposition_of_bytes k b
-    unfolding superposition_of_bytes
-    superposition_bytes_refused_k h =
-        refused_before (check_k k then check_records places 0 b) (kind_byte b) (superposition k) (elements_in places b) (rw h)
-
-    pub superposition_bytes_refused : {r : Refusal} → check_k k ≡ Fine → check_records places 0 b ≡ TurnedAway r → Refused r ≡ superposition_of_bytes k b
-    unfolding superposition_of_bytes
-    superposition_bytes_refused f h =
-        refused_before (check_k k then check_records places 0 b) (kind_byte b) (superposition k) (elements_in places b) (rw f h)
-
-    pub superposition_bytes_taken :
-        (check_k k then check_records places 0 b) ≡ Fine → in_bytes b (superposition_of k (elements_in places b)) ≡ superposition_of_bytes k b
-    unfolding superposition_of_bytes
-    superposition_bytes_taken h =
-        answer_in_bytes (superposition k) (elements_in places b) b
-        ∙ fine_before (check_k k then check_records places 0 b) (kind_byte b) (superposition k) (elements_in places b) h
+pub k_passed : (k : ℕ) (rest : Check) → check_k k ≡ Ok tt → rest ≡ (check_k k then rest)
+k_passed k rest h = rw h

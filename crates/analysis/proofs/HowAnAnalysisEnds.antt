@@ -9,21 +9,22 @@ use lib.Dec.{ltb}
 use lib.ListN.{length, take}
 use lib.Seq.{take_all}
 use borrow.Author.Tests.{le-leb, lt-leb, lt-ltb, le-ltb, ltb-true, ltb-false}
+use Rattle.std.specs.Prelude.{Ok, Err}
 use Rattle.model.specs.declared.elements.Element.{Element}
-use Rattle.model.specs.declared.answers.Check.{Check}
-use Rattle.model.specs.declared.answers.Check.TheVariants.{Fine, TurnedAway}
+use Rattle.model.specs.declared.answers.Reason.TheVariants.{KOutOfRange}
 use Rattle.model.specs.declared.answers.Verdict.{Verdict}
-use Rattle.model.specs.declared.answers.Answer.{Answer}
+use Rattle.model.specs.Answers.{Answer, Check, number_of}
 use Rattle.model.specs.Elements.{places, most_h, most_k, AllLegal, within}
 use Rattle.model.specs.Demand.{H}
 use Rattle.model.specs.ExactTest.{exact}
 use Rattle.model.specs.Superposition.{superposition}
-use Rattle.model.specs.TurnedAway.{turned, unless, ◌then◌, check_set, first_above, check_h, check_k, analysis, exact_answer, superposition_answer}
+use Rattle.model.specs.TurnedAway.{unless, ◌then◌, check_set, first_above, check_h, check_k, analysis, exact_answer, superposition_answer}
+use Rattle.model.specs.Rows.{IsRefusal}
 use Rattle.model.proofs.Cases.{clash, test, lt_or_le}
 use Rattle.model.proofs.NumberLaws.{least_is, least_at}
 use Rattle.model.proofs.ElementLaws.{within_is}
 use Rattle.model.proofs.TurnedAwayLaws.{set_fine}
-use Rattle.model.proofs.RowLaws.{set_is_turned_away}
+use Rattle.model.proofs.RowLaws.{set_is_turned_away, refused_for}
 use Rattle.theory.proofs.HyperperiodGrows.{hyperperiod_of_a_part}
 use Rattle.theory.proofs.TakenSetsAreLegal.{fine_is_legal}
 use Rattle.wire.specs.Reading.{check_records}
@@ -37,23 +38,23 @@ abbrev pub check_input : Input → Check
 check_input (in_memory t) = check_set t
 check_input (as_bytes b) = check_records places 0 b
 
-refused_turns : (x : Input) (number place : ℕ) → IsRefused x number place → check_input x ≡ turned number place
+refused_turns : (x : Input) (number place : ℕ) → IsRefused x number place → IsRefusal (check_input x) number place
 refused_turns (in_memory t) number place k = (set_is_turned_away t number place).1 k
 refused_turns (as_bytes b) number place k = records_turned b number place k
 
-turned_is_refused : (x : Input) (number place : ℕ) → IsInput x → check_input x ≡ turned number place → IsRefused x number place
+turned_is_refused : (x : Input) (number place : ℕ) → IsInput x → IsRefusal (check_input x) number place → IsRefused x number place
 turned_is_refused (in_memory t) number place i h = (set_is_turned_away t number place).0 h
 turned_is_refused (as_bytes b) number place i h = turned_are_refused b number place i h
 
-taken_is_fine : (x : Input) → IsTaken x → check_input x ≡ Fine
+taken_is_fine : (x : Input) → IsTaken x → check_input x ≡ Ok tt
 taken_is_fine (in_memory t) k = (set_fine t).1 k
 taken_is_fine (as_bytes b) k = records_fine b _ k
 
-fine_is_taken : (x : Input) → IsInput x → check_input x ≡ Fine → IsTaken x
+fine_is_taken : (x : Input) → IsInput x → check_input x ≡ Ok tt → IsTaken x
 fine_is_taken (in_memory t) i h = (set_fine t).0 h
 fine_is_taken (as_bytes b) i h = fine_are_records b i h
 
-pub input_legal : (x : Input) → check_input x ≡ Fine → AllLegal (elements x) × (length (elements x) ≤ places)
+pub input_legal : (x : Input) → check_input x ≡ Ok tt → AllLegal (elements x) × (length (elements x) ≤ places)
 input_legal (in_memory t) h = fine_is_legal t h
 input_legal (as_bytes b) h = elements_legal places 0 b h
 
@@ -103,8 +104,8 @@ module _ (x : Input) (verdict : List Element → Verdict) where
   some_way i = go (check_input x) refl
     where
       go : (c : Check) → check_input x ≡ c → Way (analysis c (place_in x) verdict s)
-      go (TurnedAway r) e = refused_first r.number r.place (turned_is_refused x r.number r.place i e)
-      go Fine e =
+      go (Err r) e = refused_first r.reason r.place (turned_is_refused x (number_of r.reason) r.place i (record { reason = r.reason; numbered = refl; by = e }))
+      go (Ok tt) e =
           let taken = fine_is_taken x i e in ⊎_elim
           (λ (h : most_h < H s). rw (lt-leb (H s) most_h h) (refused_by_8 (first_above s) taken (first_above_lem s h)))
           (λ (h : H s ≤ most_h). rw (le-leb (H s) most_h h) (given taken h))
@@ -113,7 +114,7 @@ module _ (x : Input) (verdict : List Element → Verdict) where
   -- each way is the answer's
   no_other_way : (a : Answer) → Way a → a ≡ the_answer
   unfolding analysis check_h unless
-  no_other_way a (refused_first number place k) = rw (refused_turns x number place k) refl
+  no_other_way a (refused_first reason place k) = rw (refused_for reason (refused_turns x (number_of reason) place k)) refl
   no_other_way a (refused_by_8 i taken k) =
       let fine = taken_is_fine x taken in
       rw (fine, lt-leb (H s) most_h (brings_above s i k (input_legal x fine).0), first_is s i k) refl
@@ -155,7 +156,7 @@ module _ (x : Input) (k : ℕ) where
   unfolding check_k unless
   k_looked_at is = rw (k_within is) refl
 
-  k_refused : (IsK k → ⊥) → refused_by 9 0 ≡ with_k (check_k k)
+  k_refused : (IsK k → ⊥) → refused_by KOutOfRange 0 ≡ with_k (check_k k)
   unfolding check_k unless analysis
   k_refused n = ⊎_elim (λ h. absurd (n (within_is 1 most_k k h))) (λ h. rw h refl) (test (within 1 most_k k))
 

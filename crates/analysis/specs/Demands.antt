@@ -1,15 +1,15 @@
 -- THE THREE DEMANDS as words: what each says of an input and of what an entry point answers. They speak of a set in memory and of a set as bytes alike.
-use Rattle.std.specs.Prelude.{ℕ, suc, ◌+◌, ◌≤◌, ◌<◌, ◌≡◌, true, List, ◌⊎◌, ◌↔◌, length, take}
+use Rattle.std.specs.Prelude.{ℕ, suc, ◌+◌, ◌≤◌, ◌<◌, ◌≡◌, true, List, ◌⊎◌, ◌↔◌, length, take, Ok, Err}
 use Rattle.model.specs.declared.elements.Element.{Element}
 use Rattle.model.specs.declared.elements.TaskSet.{TaskSet}
+use Rattle.model.specs.declared.answers.Reason.{Reason}
+use Rattle.model.specs.declared.answers.Reason.TheVariants.{HyperperiodAboveLimit, KOutOfRange}
 use Rattle.model.specs.declared.answers.Verdict.{Verdict}
 use Rattle.model.specs.declared.answers.Verdict.TheVariants.{Passes}
-use Rattle.model.specs.declared.answers.Answer.{Answer}
-use Rattle.model.specs.declared.answers.Answer.TheVariants.{Refused, Given}
 use Rattle.model.specs.Number.{how_many}
 use Rattle.model.specs.Elements.{places, most_h, most_k, counted, is_legal_set}
 use Rattle.model.specs.Demand.{F, H, D, Q, is_test}
-use Rattle.model.specs.Answers.{values}
+use Rattle.model.specs.Answers.{values, Answer, number_of}
 use Rattle.model.specs.ExactTest.{exact}
 use Rattle.model.specs.Superposition.{superposition}
 use Rattle.model.specs.Rows.{IsTurnedAway}
@@ -69,14 +69,14 @@ pub record BringsHAbove (s : List Element) (i : ℕ) : Type 0 where
   pub above : most_h < H (take (suc i) s)
   pub before : (j : ℕ) → j ≤ i → H (take j s) ≤ most_h
 
-abbrev pub refused_by : ℕ → ℕ → Answer
-refused_by number place = Refused (record { number = number; place = place })
+abbrev pub refused_by : Reason → ℕ → Answer
+refused_by reason place = Err (record { reason = reason; place = place })
 
 -- how an analysis ends, with its test's verdict: "then 8", then the verdict
 pub data Ends (x : Input) (v : Verdict) : Answer → Type 0 where
-  refused_first : (number place : ℕ) → IsRefused x number place → Ends x v (refused_by number place)
-  refused_by_8 : (i : ℕ) → IsTaken x → BringsHAbove (elements x) i → Ends x v (refused_by 8 (place_in x i))
-  given : IsTaken x → H (elements x) ≤ most_h → Ends x v (Given v)
+  refused_first : (reason : Reason) (place : ℕ) → IsRefused x (number_of reason) place → Ends x v (refused_by reason place)
+  refused_by_8 : (i : ℕ) → IsTaken x → BringsHAbove (elements x) i → Ends x v (refused_by HyperperiodAboveLimit (place_in x i))
+  given : IsTaken x → H (elements x) ≤ most_h → Ends x v (Ok v)
 
 abbrev pub ExactEnds : Input → Answer → Type 0
 ExactEnds x a = Ends x (exact (elements x)) a
@@ -87,7 +87,7 @@ IsK k = (1 ≤ k) × (k ≤ most_k)
 
 -- "Superposition looks at k first."
 pub data SuperpositionEnds (x : Input) (k : ℕ) : Answer → Type 0 where
-  refused_by_9 : (IsK k → ⊥) → SuperpositionEnds x k (refused_by 9 0)
+  refused_by_9 : (IsK k → ⊥) → SuperpositionEnds x k (refused_by KOutOfRange 0)
   looked_at : (a : Answer) → IsK k → Ends x (superposition k (elements x)) a → SuperpositionEnds x k a
 
 -- DEMAND 2, of elements s and the verdict that the exact test gives
@@ -119,8 +119,8 @@ pub record MeetsDemand3 (k : ℕ) (s : List Element) (v : Verdict) : Type 0 wher
 -- WHAT AN ENTRY POINT'S ANSWER MEETS
 pub record ExactMeets (x : Input) (a : Answer) : Type 0 where
   pub ends : IsInput x → ExactEnds x a
-  pub verdict : (v : Verdict) → a ≡ Given v → MeetsDemand2 (elements x) v
+  pub verdict : (v : Verdict) → a ≡ Ok v → MeetsDemand2 (elements x) v
 
 pub record SuperpositionMeets (x : Input) (k : ℕ) (a : Answer) : Type 0 where
   pub ends : IsInput x → SuperpositionEnds x k a
-  pub verdict : (v : Verdict) → a ≡ Given v → MeetsDemand3 k (elements x) v
+  pub verdict : (v : Verdict) → a ≡ Ok v → MeetsDemand3 k (elements x) v

@@ -1,6 +1,6 @@
 -- The contracts of this crate's public functions: what each says of the bytes, of k, and of what it returns, r.
 use Rattle.std.specs.Prelude.{ℕ, ◌≡◌, List}
-use Rattle.model.specs.declared.answers.Answer.{Answer}
+use Rattle.model.specs.Answers.{Answer}
 use Rattle.analysis.specs.InBytes.{exact_of_bytes, superposition_of_bytes}
 
 abbrev pub ExactOfBytesSays : List ℕ → Answer → Type 0

@@ -1,6 +1,6 @@
 -- Document 01, "What is turned away", of an analysis given bytes: 1 to 7 as the reader refuses them, then 8 at a kind byte.
 use Rattle.std.specs.Prelude.{ℕ, zero, suc, ◌+◌, List, drop}
-use Rattle.model.specs.declared.answers.Answer.{Answer}
+use Rattle.model.specs.Answers.{Answer}
 use Rattle.model.specs.Elements.{places}
 use Rattle.model.specs.ExactTest.{exact}
 use Rattle.model.specs.Superposition.{superposition}

@@ -1,77 +1,80 @@
 // Document 01's two tests of a set as bytes: the set that is read, with 8 at its kind byte.
-ghost use Rattle.std.specs.Prelude.{◌≤◌, ◌≡◌, length};
-ghost use Rattle.model.specs.Elements.{places};
-ghost use Rattle.model.specs.declared.answers.Check.TheVariants.{Fine};
+ghost use Rattle.std.specs.Prelude.{◌≤◌, ◌≡◌, ℕ, List, length};
+ghost use Rattle.model.specs.declared.elements.Element.{Element};
+ghost use Rattle.model.specs.declared.elements.TaskSet.{TaskSet};
+ghost use Rattle.model.specs.declared.answers.Reason.TheVariants.{HyperperiodAboveLimit};
+ghost use Rattle.model.specs.declared.answers.Verdict.{Verdict};
+ghost use Rattle.model.specs.Answers.{Answer};
+ghost use Rattle.model.specs.Elements.{places, counted};
+ghost use Rattle.model.specs.TurnedAway.{check_set, analysis};
 ghost use Rattle.wire.specs.Reading.{check_records, elements_in};
 ghost use Rattle.analysis.specs.InBytes.{kind_byte};
-ghost use Rattle.analysis.specs.LegalSets.{in_bytes, Placed};
+ghost use Rattle.analysis.specs.LegalSets.{refusal_in_bytes};
 ghost use Rattle.analysis.specs.FunctionContracts.{ExactOfBytesSays, SuperpositionOfBytesSays};
 
 use exact_test::exact;
 use model::checks::check_k;
-use model::{Answer, Check, Refusal};
+use model::elements::empty_set;
+use model::{Reason, Refusal, TaskSet, Verdict};
 use superposition_test::superposition;
-use wire::{read_set, rest};
+use wire::{read_into, rest};
 
 // The place of the kind byte of the record with this number.
 fn kind_byte(bytes: &[u8], number: usize) -> usize
-    requires whole { check_records places 0 bytes.now ≡ Fine }
+    requires whole { check_records places 0 bytes.now ≡ Ok tt }
     requires few { number ≤ length (elements_in places bytes.now) }
     ensures { result ≡ kind_byte bytes.now number }
 {
     let mut left = bytes;
-    let mut i: usize = 0;
-    while i < number {
-        let next = rest(left);
-        left = next;
-        i = i + 1;
+    for _ in 0..number {
+        left = rest(left);
     }
     bytes.len() - left.len()
 }
 
-// Refusal 8 at its kind byte.
-fn in_bytes(bytes: &[u8], answer: Answer) -> Answer
-    requires whole { check_records places 0 bytes.now ≡ Fine }
-    requires placed { Placed (length (elements_in places bytes.now)) answer }
-    ensures { result ≡ in_bytes bytes.now answer }
+// 8 at its kind byte.
+fn in_bytes(bytes: &[u8], r: Refusal) -> Refusal
+    requires whole { check_records places 0 bytes.now ≡ Ok tt }
+    requires placed { r.reason ≡ HyperperiodAboveLimit → r.place ≤ length (elements_in places bytes.now) }
+    ensures { result ≡ refusal_in_bytes bytes.now r }
 {
-    let Answer::Refused(r) = answer else {
-        return answer;
-    };
-    if r.number != 8 {
-        return answer;
+    match r.reason {
+        Reason::HyperperiodAboveLimit => Refusal {
+            reason: r.reason,
+            place: kind_byte(bytes, r.place),
+        },
+        _ => r,
     }
-    Answer::Refused(Refusal {
-        number: 8,
-        place: kind_byte(bytes, r.place),
-    })
 }
 
-// The exact test.
-pub fn exact_of_bytes(bytes: &[u8]) -> Answer
+// A test of a set in memory, of the set that the bytes are.
+fn of_bytes<T: FnOnce(TaskSet) -> Result<Verdict, Refusal>>(
+    bytes: &[u8],
+    test: T,
+) -> Result<Verdict, Refusal>
+    ghost verdict: { List Element → Verdict }
+    requires any_set { T.IsAlwaysCallable test }
+    requires in_memory { (t : TaskSet) (a : Answer) → T.post test t a → a ≡ analysis (check_set t) (λ place. place) verdict (counted t) }
+    ensures { result ≡ analysis (check_records places 0 bytes.now) (kind_byte bytes.now) verdict (elements_in places bytes.now) }
+{
+    let mut set = empty_set();
+    read_into(bytes, &mut set)?;
+    match test(set) {
+        Err(r) => Err(in_bytes(bytes, r)),
+        Ok(verdict) => Ok(verdict),
+    }
+}
+
+pub fn exact_of_bytes(bytes: &[u8]) -> Result<Verdict, Refusal>
     ensures { ExactOfBytesSays bytes.now result }
 {
-    let read = read_set(bytes);
-    let of_records = read.check;
-    if let Check::TurnedAway(r) = of_records {
-        return Answer::Refused(r);
-    }
-    let answer = exact(read.set);
-    in_bytes(bytes, answer)
+    of_bytes(bytes, exact)
 }
 
-// Superposition: k is looked at first.
-pub fn superposition_of_bytes(bytes: &[u8], k: u32) -> Answer
+// k is looked at first.
+pub fn superposition_of_bytes(bytes: &[u8], k: u32) -> Result<Verdict, Refusal>
     ensures { SuperpositionOfBytesSays bytes.now k result }
 {
-    if let Check::TurnedAway(r) = check_k(k) {
-        return Answer::Refused(r);
-    }
-    let read = read_set(bytes);
-    let of_records = read.check;
-    if let Check::TurnedAway(r) = of_records {
-        return Answer::Refused(r);
-    }
-    let answer = superposition(read.set, k);
-    in_bytes(bytes, answer)
+    check_k(k)?;
+    of_bytes(bytes, move |set| superposition(set, k))
 }

@@ -5,8 +5,8 @@ use mathlib.Core.List.{List, [], ◌∷◌}
 use lib.ListN.{length, set}
 use lib.Seq.{sets-eq}
 use borrow.Author.Tests.{le-leb, lt-leb}
+use Rattle.std.specs.Prelude.{Ok, Err}
 use Rattle.model.specs.declared.answers.Refusal.{Refusal}
-use Rattle.model.specs.declared.answers.Check.TheVariants.{Fine, TurnedAway}
 use Rattle.model.specs.declared.answers.Numbers.{Numbers}
 use Rattle.writer.specs.declared.writing.Written.{Written}
 use Rattle.writer.specs.declared.writing.Written.TheVariants.{Refused}
@@ -39,21 +39,21 @@ module _ (n : Numbers) (answer : List ℕ) where
 
 -- REWRITING
 module _ (b out : List ℕ) where
-  pub read_refused : {r : Refusal} → (read_set b).check ≡ TurnedAway r → (Refused r ≡ rewrite b (length out)) × (out ≡ rewritten b out)
+  pub read_refused : {r : Refusal} → (read_set b).check ≡ Err r → (Err r ≡ rewrite b (length out)) × (out ≡ rewritten b out)
   unfolding rewrite rewritten
   read_refused h = (rw h, rw h)
 
   -- and the empty set written
   pub refused_then_written :
       {r : Refusal} {after : List ℕ} →
-      (read_set b).check ≡ TurnedAway r →
+      (read_set b).check ≡ Err r →
       after ≡ buffer_after (read_set b).set out →
-      (Refused r ≡ rewrite b (length out)) × (after ≡ rewritten b out)
+      (Err r ≡ rewrite b (length out)) × (after ≡ rewritten b out)
   refused_then_written h p = let k = read_refused h in (k.0, p ∙ rw (refused_is_empty b h) (empty_changes_nothing out) ∙ k.1)
 
   pub read_fine :
       {w : Written} {after : List ℕ} →
-      (read_set b).check ≡ Fine →
+      (read_set b).check ≡ Ok tt →
       (w ≡ write_set (read_set b).set (length out)) × (after ≡ buffer_after (read_set b).set out) →
       (w ≡ rewrite b (length out)) × (after ≡ rewritten b out)
   unfolding rewrite rewritten

@@ -5,8 +5,8 @@ use mathlib.Core.Path.{◌≡◌, refl, sym, ap, ◌∙◌}
 use mathlib.Core.List.{List}
 use mathlib.Core.Logic.{inr}
 use lib.ListN.{length}
+use Rattle.std.specs.Prelude.{Ok, Err}
 use Rattle.model.specs.declared.answers.Refusal.{Refusal}
-use Rattle.model.specs.declared.answers.Check.TheVariants.{Fine, TurnedAway}
 use Rattle.writer.specs.declared.writing.Written.TheVariants.{Bytes, Refused}
 use Rattle.wire.specs.Format.{AllBytes}
 use Rattle.wire.specs.Reading.{read_set}
@@ -21,7 +21,7 @@ module _ (b out : List ℕ) where
   -- THEOREM: bytes that are a set are copied
   pub set_is_copied :
       AllBytes b →
-      (read_set b).check ≡ Fine →
+      (read_set b).check ≡ Ok tt →
       length b ≤ length out →
       (rewrite b (length out) ≡ Bytes (length b)) × (rewritten b out ≡ over b out)
   set_is_copied h c long =
@@ -32,9 +32,9 @@ module _ (b out : List ℕ) where
   -- THEOREM: without room they are refused by 10 with the bytes needed, and nothing is changed
   pub set_without_room :
       AllBytes b →
-      (read_set b).check ≡ Fine →
+      (read_set b).check ≡ Ok tt →
       length out < length b →
-      (rewrite b (length out) ≡ Refused (record { number = 10; place = length b })) × (rewritten b out ≡ out)
+      (rewrite b (length out) ≡ Err (record { number = 10; place = length b })) × (rewritten b out ≡ out)
   set_without_room h c short =
       let its = read_has_its_bytes b h c in
       let lacks : HasNoRoom (read_set b).set (length out) 10 (length b) = record { legal = its.0; by = refl; at = ap length (sym its.1); short = short } in
@@ -43,5 +43,5 @@ module _ (b out : List ℕ) where
       (sym same.0 ∙ refused, sym same.1 ∙ refused_write_changes_nothing (read_set b).set out _ _ (refl, refl) _ refused)
 
   -- THEOREM: bytes that are no set get the reader's refusal, and nothing is changed
-  pub no_set : (r : Refusal) → (read_set b).check ≡ TurnedAway r → (rewrite b (length out) ≡ Refused r) × (rewritten b out ≡ out)
+  pub no_set : (r : Refusal) → (read_set b).check ≡ Err r → (rewrite b (length out) ≡ Err r) × (rewritten b out ≡ out)
   no_set r h = let kept = read_refused b out h in (sym kept.0, sym kept.1)

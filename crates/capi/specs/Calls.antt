@@ -1,10 +1,8 @@
 -- What the calls from C return and leave in what they are lent. include/simaurkoi.h says the same in words.
-use Rattle.std.specs.Prelude.{ℕ, ◌≡◌, cond, List, [], ◌∷◌, leb, length}
-use Rattle.model.specs.declared.answers.Check.{Check}
-use Rattle.model.specs.declared.answers.Check.TheVariants.{Fine, TurnedAway}
+use Rattle.std.specs.Prelude.{ℕ, ◌≡◌, cond, List, [], ◌∷◌, Result, leb, length, Ok, Err}
+use Rattle.model.specs.declared.answers.Refusal.{Refusal}
 use Rattle.model.specs.declared.answers.Numbers.{Numbers}
-use Rattle.writer.specs.declared.writing.Written.{Written}
-use Rattle.writer.specs.declared.writing.Written.TheVariants.{Refused}
+use Rattle.model.specs.Answers.{Check}
 use Rattle.wire.specs.Reading.{read_set}
 use Rattle.model.specs.Buffers.{over}
 use Rattle.writer.specs.Writing.{written_numbers, write_set, buffer_after}
@@ -26,15 +24,15 @@ abbrev pub CallAnswers : Numbers → List ℕ → ℕ → List ℕ → Type 0
 CallAnswers n before r after = (r ≡ returned n before) × (after ≡ answer_after n before)
 
 -- REWRITING: the reader's refusal, or what the writer answers for the set that was read
-abbrev pub unless_turned_away : Check → Written → Written
-unless_turned_away Fine w = w
-unless_turned_away (TurnedAway r) w = Refused r
+abbrev pub unless_turned_away : Check → Result ℕ Refusal → Result ℕ Refusal
+unless_turned_away (Ok u) w = w
+unless_turned_away (Err r) w = Err r
 
-unfoldable pub rewrite : List ℕ → ℕ → Written
+unfoldable pub rewrite : List ℕ → ℕ → Result ℕ Refusal
 rewrite b room = unless_turned_away (read_set b).check (write_set (read_set b).set room)
 
 -- its six numbers: the third is the bytes written
-unfoldable pub rewrite_numbers : Written → Numbers
+unfoldable pub rewrite_numbers : Result ℕ Refusal → Numbers
 rewrite_numbers w =
     record {
       refusal = (written_numbers w).refusal;
@@ -47,8 +45,8 @@ rewrite_numbers w =
 
 -- the buffer: as the writer leaves it, and as it was where the reader refuses
 abbrev pub kept_if_turned_away : Check → List ℕ → List ℕ → List ℕ
-kept_if_turned_away Fine written out = written
-kept_if_turned_away (TurnedAway r) written out = out
+kept_if_turned_away (Ok u) written out = written
+kept_if_turned_away (Err r) written out = out
 
 unfoldable pub rewritten : List ℕ → List ℕ → List ℕ
 rewritten b out = kept_if_turned_away (read_set b).check (buffer_after (read_set b).set out) out

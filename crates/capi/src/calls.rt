@@ -3,12 +3,12 @@ ghost use Rattle.std.specs.Prelude.{◌≡◌, length};
 ghost use Rattle.capi.specs.Calls.{rewrite, rewritten};
 ghost use Rattle.capi.specs.FunctionContracts.{ExactCallSays, SuperpositionCallSays, RewriteCallSays};
 
-use crate::answers::{numbers_of, put_numbers, rewrite_numbers};
+use crate::answers::{put_numbers, rewrite_numbers};
 use analysis::{exact_of_bytes, superposition_of_bytes};
-use model::Check;
 use model::elements::empty_set;
+use model::{Numbers, Refusal};
 use wire::read_into;
-use writer::{Written, write_set};
+use writer::write_set;
 
 const ANSWER_PLACES: usize = 6;
 
@@ -22,9 +22,7 @@ pub extern "C" fn simaurkoi_exact(set: &[u8], answer: &mut [u64]) -> u32
     if answer.len() < ANSWER_PLACES {
         return TOO_FEW_PLACES;
     }
-    let found = exact_of_bytes(set);
-    let n = numbers_of(found);
-    put_numbers(answer, n)
+    put_numbers(answer, Numbers::from(exact_of_bytes(set)))
 }
 
 #[unsafe(no_mangle)]
@@ -34,22 +32,16 @@ pub extern "C" fn simaurkoi_superposition(set: &[u8], k: u32, answer: &mut [u64]
     if answer.len() < ANSWER_PLACES {
         return TOO_FEW_PLACES;
     }
-    let found = superposition_of_bytes(set, k);
-    let n = numbers_of(found);
-    put_numbers(answer, n)
+    put_numbers(answer, Numbers::from(superposition_of_bytes(set, k)))
 }
 
-// The set of a refused read is empty: writing it changes no byte.
-fn read_then_write(set: &[u8], out: &mut [u8]) -> Written
+// A refused read writes nothing.
+fn read_then_write(set: &[u8], out: &mut [u8]) -> Result<usize, Refusal>
     ensures { (result ≡ rewrite set.now (length out.old)) × (out.new ≡ rewritten set.now out.old) }
 {
     let mut read = empty_set();
-    let check = read_into(set, &mut read);
-    let done = write_set(read, out);
-    match check {
-        Check::Fine => done,
-        Check::TurnedAway(r) => Written::Refused(r),
-    }
+    read_into(set, &mut read)?;
+    write_set(read, out)
 }
 
 #[unsafe(no_mangle)]
@@ -59,7 +51,5 @@ pub extern "C" fn simaurkoi_rewrite(set: &[u8], out: &mut [u8], answer: &mut [u6
     if answer.len() < ANSWER_PLACES {
         return TOO_FEW_PLACES;
     }
-    let done = read_then_write(set, out);
-    let n = rewrite_numbers(done);
-    put_numbers(answer, n)
+    put_numbers(answer, rewrite_numbers(read_then_write(set, out)))
 }
