@@ -5,11 +5,11 @@ use Rattle.model.specs.declared.answers.Answer.TheVariants.{Refused, Given}
 use Rattle.model.specs.declared.answers.Refusal.{Refusal}
 use Rattle.model.specs.declared.answers.Verdict.{Verdict}
 use Rattle.printer.specs.declared.answers.Lines.{Lines}
-use Rattle.printer.specs.Text.{verdict_line, refused_line}
+use Rattle.printer.specs.Text.{k_name, verdict_line, refused_line}
 
 -- "It prints a line for the exact test and for k = 1, 2 and 100"
 unfoldable pub lines : Lines Verdict → List ℕ
-lines v = verdict_line (codes "exact") v.exact ++ verdict_line (codes "k=1") v.one ++ verdict_line (codes "k=2") v.two ++ verdict_line (codes "k=100") v.hundred
+lines v = verdict_line (codes "exact") v.exact ++ verdict_line (k_name 1) v.one ++ verdict_line (k_name 2) v.two ++ verdict_line (k_name 100) v.hundred
 
 abbrev pub given : Answer → Result Verdict Refusal
 given (Given v) = Ok v

@@ -16,6 +16,10 @@ newline = 10 ∷ []
 unfoldable pub line : List ℕ → List ℕ → List ℕ
 line name numbers = name ++ flat_map field numbers ++ newline
 
+-- k= and the number
+abbrev pub k_name : ℕ → List ℕ
+k_name k = codes "k=" ++ decimal k
+
 -- "name, verdict, interval, demand, count"
 abbrev pub verdict_line : List ℕ → Verdict → List ℕ
 verdict_line name verdict =
