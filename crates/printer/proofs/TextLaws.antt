@@ -1,5 +1,5 @@
 -- Laws of specs/Growing. Assumes nothing.
-use Prim.Native.Nat.{ℕ, ◌+◌, ◌*◌}
+use Prim.Native.Nat.{ℕ, ◌+◌, ◌*◌, ◌≤◌}
 use mathlib.Core.Path.{◌≡◌}
 use mathlib.Core.List.{List, [], ◌++◌, append_assoc}
 use native.Mathlib.Omega.{arith}
@@ -35,7 +35,16 @@ ends_line name numbers h p e =
     let end : Grows 1 newline _ _ = record { whole = e; short = omega arith } in
     grows_then (rw (h, whole) at p) end
 
--- what is shown stands in a text that was empty
-pub shown_whole : (a : Lines Answer) {shown : Result (Lines Verdict) Refusal} {m : ℕ} {s t : List ℕ} → shown ≡ shown_of a → s ≡ [] → Grows m (text_of shown) s t → t ≡ printed_of a
+-- what is shown, in a text that was empty
+pub shown_grows :
+    (a : Lines Answer) {shown : Result (Lines Verdict) Refusal} {m : ℕ} {s t : List ℕ} →
+    shown ≡ shown_of a →
+    s ≡ [] →
+    m ≤ 356 →
+    Grows m (text_of shown) s t →
+    Grows 356 (printed_of a) [] t
 unfolding printed_of
-shown_whole a h e p = rw (e, h) at p.whole
+shown_grows a h e few p = record {
+  whole = rw (e, h) at p.whole;
+  short = omega (arith, few, rw h at p.short);
+}
