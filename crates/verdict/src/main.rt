@@ -7,8 +7,7 @@ mod report;
 
 use crate::report::put_verdicts;
 use printer::ROOM;
-use std::io;
-use std::io::Read;
+use std::io::{self, Read};
 use wire::read_set;
 
 // How many bytes were read: as many as there are, up to the buffer's length.
