@@ -1,14 +1,17 @@
 -- The contracts of the public functions: the code keeps each, and no two outcomes satisfy it; and a verdict's values tell its case. Assumes nothing.
 use Prim.Native.Nat.{ℕ, zero, suc}
+use mathlib.Core.List.{List}
+use Rattle.std.specs.Borrow.{Bor}
 use mathlib.Core.Path.{◌≡◌, refl, ap, sym, ◌∙◌}
 use Rattle.model.specs.declared.elements.Element.{Element}
 use Rattle.model.specs.declared.elements.TaskSet.{TaskSet}
-use Rattle.model.specs.declared.answers.Check.{Check}
+use Rattle.model.specs.declared.answers.Reason.{Reason}
 use Rattle.model.specs.declared.answers.Verdict.{Verdict}
 use Rattle.model.specs.declared.answers.Verdict.TheVariants.{Passes, Overrun, LoadAboveOne, NotShown}
 use Rattle.model.specs.declared.answers.Values.{Values}
-use Rattle.model.specs.Answers.{values}
-use Rattle.model.specs.FunctionContracts.{EmptySetSays, FirstDueSays, CheckElementSays, CheckSetSays, CheckKSays, ValuesOfSays}
+use Rattle.model.specs.declared.answers.Numbers.{Numbers}
+use Rattle.model.specs.Answers.{Check, Answer, values}
+use Rattle.model.specs.FunctionContracts.{EmptySetSays, FirstDueSays, CheckElementSays, CheckSetSays, CheckKSays, ValuesOfSays, CountedSays, NumberOfSays, NumbersOfSays}
 use Rattle.model.specs.Promises.{Promises}
 use Rattle.model.specs.contracts
 use Rattle.model.proofs.elements
@@ -31,10 +34,19 @@ check_set_keeps = record { met = λ M. checks.check_set.Met.met }
 pub check_k_keeps : Promises contracts.checks.check_k.ended checks.check_k.Symbol.code checks.check_k.Symbol.name (λ κs given r after. CheckKSays given.0 r)
 check_k_keeps = record { met = λ M. checks.check_k.Met.met }
 
-pub values_of_keeps : Promises contracts.answers.values_of.ended answers.values_of.Symbol.code answers.values_of.Symbol.name (λ κs given r after. ValuesOfSays given.0 r)
-values_of_keeps = record { met = λ M. answers.values_of.Met.met }
+pub counted_keeps : Promises contracts.elements.TaskSet.counted.ended elements.TaskSet.counted.Symbol.code elements.TaskSet.counted.Symbol.name (λ κs given r after. CountedSays given.0.now r)
+counted_keeps = record { met = λ M. elements.TaskSet.counted.Met.met }
 
--- NO TWO OUTCOMES
+pub number_of_keeps : Promises contracts.answers.U32FromReason.from.ended answers.U32FromReason.from.Symbol.code answers.U32FromReason.from.Symbol.name (λ κs given r after. NumberOfSays given.0 r)
+number_of_keeps = record { met = λ M. answers.U32FromReason.from.Met.met }
+
+pub values_of_keeps : Promises contracts.answers.ValuesFromVerdict.from.ended answers.ValuesFromVerdict.from.Symbol.code answers.ValuesFromVerdict.from.Symbol.name (λ κs given r after. ValuesOfSays given.0 r)
+values_of_keeps = record { met = λ M. answers.ValuesFromVerdict.from.Met.met }
+
+pub numbers_of_keeps : Promises contracts.answers.NumbersFromResultVerdictRefusal.from.ended answers.NumbersFromResultVerdictRefusal.from.Symbol.code answers.NumbersFromResultVerdictRefusal.from.Symbol.name (λ κs given r after. NumbersOfSays given.0 r)
+numbers_of_keeps = record { met = λ M. answers.NumbersFromResultVerdictRefusal.from.Met.met }
+
+-- NO TWO OUTCOMES; of what is borrowed, no two that hold something else
 pub empty_set_is_decided : (a b : TaskSet) → EmptySetSays a → EmptySetSays b → a ≡ b
 empty_set_is_decided a b p q = p ∙ sym q
 
@@ -49,6 +61,15 @@ set_check_is_decided t a b p q = p ∙ sym q
 
 pub k_check_is_decided : (k : ℕ) (a b : Check) → CheckKSays k a → CheckKSays k b → a ≡ b
 k_check_is_decided k a b p q = p ∙ sym q
+
+pub counted_is_decided : (t : TaskSet) (a b : Bor (List Element)) → CountedSays t a → CountedSays t b → a.now ≡ b.now
+counted_is_decided t a b p q = p ∙ sym q
+
+pub number_is_decided : (reason : Reason) (a b : ℕ) → NumberOfSays reason a → NumberOfSays reason b → a ≡ b
+number_is_decided reason a b p q = p ∙ sym q
+
+pub numbers_are_decided : (answer : Answer) (a b : Numbers) → NumbersOfSays answer a → NumbersOfSays answer b → a ≡ b
+numbers_are_decided answer a b p q = p ∙ sym q
 
 pub values_are_decided : (v : Verdict) (a b : Values) → ValuesOfSays v a → ValuesOfSays v b → a ≡ b
 values_are_decided v a b p q = p ∙ sym q

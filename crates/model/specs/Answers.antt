@@ -1,13 +1,33 @@
 -- Document 01's number and values for each case of an answer. "Answers are verdict, interval, demand, count."
-use Rattle.std.specs.Prelude.{ℕ}
-use Rattle.model.specs.declared.answers.Check.{Check}
-use Rattle.model.specs.declared.answers.Check.TheVariants.{Fine, TurnedAway}
+use Rattle.std.specs.Prelude.{ℕ, Result, Ok, Err}
+use Rattle.model.specs.declared.answers.Reason.{Reason}
+use Rattle.model.specs.declared.answers.Reason.TheVariants.{UnknownKind, RecordCut, TooManyElements, PeriodOutOfRange, OffsetOutOfRange, DeadlineOutOfRange, CostOutOfRange, HyperperiodAboveLimit, KOutOfRange, BufferTooShort}
+use Rattle.model.specs.declared.answers.Refusal.{Refusal}
 use Rattle.model.specs.declared.answers.Verdict.{Verdict}
 use Rattle.model.specs.declared.answers.Verdict.TheVariants.{Passes, Overrun, LoadAboveOne, NotShown}
 use Rattle.model.specs.declared.answers.Values.{Values}
 use Rattle.model.specs.declared.answers.Numbers.{Numbers}
-use Rattle.model.specs.declared.answers.Answer.{Answer}
-use Rattle.model.specs.declared.answers.Answer.TheVariants.{Refused, Given}
+
+-- what a check finds: nothing, or a refusal
+abbrev pub Check : Type 0
+Check = Result (Unit {0}) Refusal
+
+-- what an analysis answers: a verdict, or a refusal
+abbrev pub Answer : Type 0
+Answer = Result Verdict Refusal
+
+-- the number of each row of "What is turned away"
+abbrev pub number_of : Reason → ℕ
+number_of UnknownKind = 1
+number_of RecordCut = 2
+number_of TooManyElements = 3
+number_of PeriodOutOfRange = 4
+number_of OffsetOutOfRange = 5
+number_of DeadlineOutOfRange = 6
+number_of CostOutOfRange = 7
+number_of HyperperiodAboveLimit = 8
+number_of KOutOfRange = 9
+number_of BufferTooShort = 10
 
 abbrev pub values : Verdict → Values
 values (Passes n) = record { verdict = 0; interval = 0; demand = 0; count = n }
@@ -21,8 +41,8 @@ pub record Told : Type 0 where
   pub place : ℕ
 
 abbrev pub told : Check → Told
-told Fine = record { refusal = 0; place = 0 }
-told (TurnedAway r) = record { refusal = r.number; place = r.place }
+told (Ok u) = record { refusal = 0; place = 0 }
+told (Err r) = record { refusal = number_of r.reason; place = r.place }
 
 -- a refusal's number and place with zeros after them, or a verdict's values with zeros before them
 abbrev pub refused : ℕ → ℕ → Numbers
@@ -32,5 +52,5 @@ abbrev pub given : Values → Numbers
 given v = record { refusal = 0; place = 0; verdict = v.verdict; interval = v.interval; demand = v.demand; count = v.count }
 
 abbrev pub numbers : Answer → Numbers
-numbers (Refused r) = refused r.number r.place
-numbers (Given v) = given (values v)
+numbers (Err r) = refused (number_of r.reason) r.place
+numbers (Ok v) = given (values v)

@@ -1,13 +1,15 @@
 -- The contracts of this crate's public functions: what each says of what it was given and what it returns, r.
-use Rattle.std.specs.Prelude.{ℕ, ◌≡◌}
+use Rattle.std.specs.Prelude.{ℕ, ◌≡◌, List}
+use Rattle.std.specs.Borrow.{Bor}
 use Rattle.model.specs.declared.elements.Element.{Element}
 use Rattle.model.specs.declared.elements.TaskSet.{TaskSet}
-use Rattle.model.specs.declared.answers.Check.{Check}
+use Rattle.model.specs.declared.answers.Reason.{Reason}
 use Rattle.model.specs.declared.answers.Verdict.{Verdict}
 use Rattle.model.specs.declared.answers.Values.{Values}
-use Rattle.model.specs.Elements.{empty_set}
+use Rattle.model.specs.declared.answers.Numbers.{Numbers}
+use Rattle.model.specs.Elements.{empty_set, counted}
 use Rattle.model.specs.Demand.{f}
-use Rattle.model.specs.Answers.{values}
+use Rattle.model.specs.Answers.{Check, Answer, number_of, values, numbers}
 use Rattle.model.specs.TurnedAway.{check_element, check_set, check_k}
 
 abbrev pub EmptySetSays : TaskSet → Type 0
@@ -15,6 +17,10 @@ EmptySetSays r = r ≡ empty_set
 
 abbrev pub FirstDueSays : Element → ℕ → Type 0
 FirstDueSays e r = r ≡ f e
+
+-- of the counted places, as a slice
+abbrev pub CountedSays : TaskSet → Bor (List Element) → Type 0
+CountedSays t r = r.now ≡ counted t
 
 abbrev pub CheckElementSays : ℕ → Element → Check → Type 0
 CheckElementSays place e r = r ≡ check_element place e
@@ -27,3 +33,9 @@ CheckKSays k r = r ≡ check_k k
 
 abbrev pub ValuesOfSays : Verdict → Values → Type 0
 ValuesOfSays v r = r ≡ values v
+
+abbrev pub NumberOfSays : Reason → ℕ → Type 0
+NumberOfSays reason r = r ≡ number_of reason
+
+abbrev pub NumbersOfSays : Answer → Numbers → Type 0
+NumbersOfSays a r = r ≡ numbers a

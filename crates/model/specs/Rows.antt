@@ -1,7 +1,10 @@
 -- Words of the theorems about refusals: the rows of document 01's table, "What is turned away", and a set in memory that they turn away.
-use Rattle.std.specs.Prelude.{ℕ, ◌≤◌, ◌<◌, ◌≡◌, Bool, true, false, List, [], ◌∷◌, ◌⊎◌, length, take, get_or}
+use Rattle.std.specs.Prelude.{ℕ, ◌≤◌, ◌<◌, ◌≡◌, Bool, true, false, List, [], ◌∷◌, ◌⊎◌, Result, Err, length, take, get_or}
 use Rattle.model.specs.declared.elements.Element.{Element}
 use Rattle.model.specs.declared.elements.TaskSet.{TaskSet}
+use Rattle.model.specs.declared.answers.Reason.{Reason}
+use Rattle.model.specs.declared.answers.Refusal.{Refusal}
+use Rattle.model.specs.Answers.{number_of}
 use Rattle.model.specs.Elements.{places, is_period, is_offset, is_deadline, is_cost, AllLegal, filler, counted}
 
 -- 4 to 7: "period", "offset", "deadline", "cost out of range": whether each lets pass
@@ -33,3 +36,9 @@ pub record HasBadValue (t : TaskSet) (number place : ℕ) : Type 0 where
 
 abbrev pub IsTurnedAway : TaskSet → ℕ → ℕ → Type 0
 IsTurnedAway t number place = HasTooMany t number place ⊎ HasBadValue t number place
+
+-- what is found or answered is a refusal by this number at this place
+pub record IsRefusal {A : Type 0} (r : Result A Refusal) (number place : ℕ) : Type 0 where
+  pub reason : Reason
+  pub numbered : number_of reason ≡ number
+  pub by : r ≡ Err (record { reason = reason; place = place })

@@ -1,9 +1,8 @@
 -- Document 01, "Sums for the blackboard": the starred ones, as one table. "Periodic elements as (p, a, d, c), single events as once (a, d, c).
 -- Answers are verdict, interval, demand, count."
-use Rattle.std.specs.Prelude.{ℕ, ◌≤◌, ◌≡◌, List, [], ◌∷◌}
+use Rattle.std.specs.Prelude.{ℕ, ◌≤◌, ◌≡◌, List, [], ◌∷◌, Ok}
 use Rattle.model.specs.declared.elements.Period.TheVariants.{Once, Every}
 use Rattle.model.specs.declared.elements.Element.{Element}
-use Rattle.model.specs.declared.answers.Check.TheVariants.{Fine}
 use Rattle.model.specs.Elements.{most_k, set_of}
 use Rattle.model.specs.Demand.{H, D}
 use Rattle.model.specs.declared.answers.Numbers.{Numbers}
@@ -33,7 +32,7 @@ Holds (exactly s a) = numbers (exact_answer (set_of s)) ≡ a
 Holds (with_k k s a) = numbers (superposition_answer k (set_of s)) ≡ a
 Holds (any_k s a) = (k : ℕ) → 1 ≤ k → k ≤ most_k → numbers (superposition_answer k (set_of s)) ≡ a
 Holds (demand_at I s d) = D s I ≡ d
-Holds (taken_with h s) = (H s ≡ h) × ((check_set (set_of s) then check_h (λ place. place) s) ≡ Fine)
+Holds (taken_with h s) = (H s ≡ h) × ((check_set (set_of s) then check_h (λ place. place) s) ≡ Ok tt)
 Holds (refused_with h s a) = (H s ≡ h) × (numbers (exact_answer (set_of s)) ≡ a)
 
 -- THE SETS. S1 is the empty one; S11 has two

@@ -1,19 +1,27 @@
 // The answer of an analysis, and document 01's numbers for each case. specs/Answers.antt defines them.
 ghost use Rattle.std.specs.Prelude.{◌≡◌};
-ghost use Rattle.model.specs.FunctionContracts.{ValuesOfSays};
+ghost use Rattle.model.specs.FunctionContracts.{NumberOfSays, ValuesOfSays, NumbersOfSays};
 
-// A row of document 01's table of what is turned away, with its place.
+// Why something is turned away: the rows of document 01's table.
 #[derive(Clone, Copy)]
-pub struct Refusal {
-    pub number: u32,
-    pub place: usize,
+pub enum Reason {
+    UnknownKind,
+    RecordCut,
+    TooManyElements,
+    PeriodOutOfRange,
+    OffsetOutOfRange,
+    DeadlineOutOfRange,
+    CostOutOfRange,
+    HyperperiodAboveLimit,
+    KOutOfRange,
+    BufferTooShort,
 }
 
-// What a check finds.
+// What is turned away, and where.
 #[derive(Clone, Copy)]
-pub enum Check {
-    Fine,
-    TurnedAway(Refusal),
+pub struct Refusal {
+    pub reason: Reason,
+    pub place: usize,
 }
 
 #[derive(Clone, Copy)]
@@ -35,12 +43,6 @@ pub enum Verdict {
         demand: u64,
         count: u64,
     },
-}
-
-#[derive(Clone, Copy)]
-pub enum Answer {
-    Refused(Refusal),
-    Given(Verdict),
 }
 
 #[derive(Clone, Copy)]
@@ -73,21 +75,71 @@ fn four(verdict: u64, interval: u64, demand: u64, count: u64) -> Values
     }
 }
 
-pub fn values_of(verdict: Verdict) -> Values
-    ensures { ValuesOfSays verdict result }
-{
-    match verdict {
-        Verdict::Passes { count } => four(0, 0, 0, count),
-        Verdict::Overrun {
-            interval,
-            demand,
-            count,
-        } => four(1, interval, demand, count),
-        Verdict::LoadAboveOne { interval, demand } => four(2, interval, demand, 0),
-        Verdict::NotShown {
-            interval,
-            demand,
-            count,
-        } => four(3, interval, demand, count),
+// Document 01's number of each row.
+impl From<Reason> for u32 {
+    ghost from_gives = { NumberOfSays };
+
+    fn from(reason: Reason) -> u32 {
+        match reason {
+            Reason::UnknownKind => 1,
+            Reason::RecordCut => 2,
+            Reason::TooManyElements => 3,
+            Reason::PeriodOutOfRange => 4,
+            Reason::OffsetOutOfRange => 5,
+            Reason::DeadlineOutOfRange => 6,
+            Reason::CostOutOfRange => 7,
+            Reason::HyperperiodAboveLimit => 8,
+            Reason::KOutOfRange => 9,
+            Reason::BufferTooShort => 10,
+        }
+    }
+}
+
+impl From<Verdict> for Values {
+    ghost from_gives = { ValuesOfSays };
+
+    fn from(verdict: Verdict) -> Values {
+        match verdict {
+            Verdict::Passes { count } => four(0, 0, 0, count),
+            Verdict::Overrun {
+                interval,
+                demand,
+                count,
+            } => four(1, interval, demand, count),
+            Verdict::LoadAboveOne { interval, demand } => four(2, interval, demand, 0),
+            Verdict::NotShown {
+                interval,
+                demand,
+                count,
+            } => four(3, interval, demand, count),
+        }
+    }
+}
+
+impl From<Result<Verdict, Refusal>> for Numbers {
+    ghost from_gives = { NumbersOfSays };
+
+    fn from(answer: Result<Verdict, Refusal>) -> Numbers {
+        match answer {
+            Err(r) => Numbers {
+                refusal: u32::from(r.reason),
+                place: r.place,
+                verdict: 0,
+                interval: 0,
+                demand: 0,
+                count: 0,
+            },
+            Ok(verdict) => {
+                let v = Values::from(verdict);
+                Numbers {
+                    refusal: 0,
+                    place: 0,
+                    verdict: v.verdict,
+                    interval: v.interval,
+                    demand: v.demand,
+                    count: v.count,
+                }
+            }
+        }
     }
 }

@@ -1,8 +1,8 @@
 // Document 01, "Elements": the element, the set in memory, and the limits of its table.
 ghost use Rattle.std.specs.Prelude.{◌≡◌, ◌≤◌, true, length};
 ghost use Rattle.model.specs.Over.{all_over};
-ghost use Rattle.model.specs.Elements.{is_legal, places, counted};
-ghost use Rattle.model.specs.FunctionContracts.{EmptySetSays, FirstDueSays};
+ghost use Rattle.model.specs.Elements.{is_legal, places};
+ghost use Rattle.model.specs.FunctionContracts.{EmptySetSays, CountedSays, FirstDueSays};
 
 pub const MOST_PERIOD: u32 = 16_777_216;
 
@@ -42,7 +42,7 @@ pub struct TaskSet {
 impl TaskSet {
     // The counted places, in table order; all of them where the count is above their number.
     pub fn counted(&self) -> &[Element]
-        ensures { result.now ≡ counted self.entry.now }
+        ensures { CountedSays self.entry.now result }
     {
         if PLACES < self.count {
             &self.table
@@ -81,5 +81,5 @@ pub fn empty_set() -> TaskSet
 pub fn first_due(e: Element) -> u64
     ensures { FirstDueSays e result }
 {
-    (e.offset as u64) + (e.deadline as u64)
+    u64::from(e.offset) + u64::from(e.deadline)
 }

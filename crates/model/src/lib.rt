@@ -5,5 +5,5 @@ pub mod answers;
 pub mod checks;
 pub mod elements;
 
-pub use answers::{Answer, Check, Numbers, Refusal, Values, Verdict};
+pub use answers::{Numbers, Reason, Refusal, Values, Verdict};
 pub use elements::{Element, LegalSet, Period, TaskSet};

@@ -1,11 +1,12 @@
--- The places of a set as numbers: columns of a number for each place.
-use Rattle.std.specs.Prelude.{ℕ, List, map}
-use Rattle.std.proofs.lemmas.List.Edits.{sets}
+-- The places of a set as numbers: a row for each place.
+use Rattle.std.specs.Prelude.{ℕ, List, ◌++◌, map, length, drop}
 use Rattle.model.specs.declared.elements.Period.{Period}
 use Rattle.model.specs.declared.elements.Period.TheVariants.{Once, Every}
 use Rattle.model.specs.declared.elements.Element.{Element}
 use Rattle.model.specs.declared.elements.TaskSet.{TaskSet}
 use Rattle.model.specs.Elements.{counted}
+use Rattle.model.specs.Demand.{f}
+use Rattle.places.specs.declared.columns.Place.{Place}
 
 -- no bound of the exact test is above this
 abbrev pub most_bound : ℕ
@@ -19,9 +20,10 @@ step_of (Every p) = p
 abbrev pub step_in : Element → ℕ
 step_in e = step_of e.period
 
-abbrev pub cost_in : Element → ℕ
-cost_in e = e.cost
+-- an element's row: its first due length is its next
+abbrev pub place_of : Element → Place
+place_of e = record { next = f e; step = step_in e; cost = e.cost }
 
--- a column with g of each counted place's element put from its start on; other places stay
-unfoldable pub column : (Element → ℕ) → TaskSet → List ℕ → List ℕ
-column g t xs = sets xs 0 (map g (counted t))
+-- rows with that of each counted place put from their start on; other places stay
+unfoldable pub laid : TaskSet → List Place → List Place
+laid t rows = map place_of (counted t) ++ drop (length (counted t)) rows

@@ -1,9 +1,13 @@
--- The contract of this crate's public function: what it says of what it was given, and of the columns after it.
-use Rattle.std.specs.Prelude.{ℕ, ◌≡◌, List}
+-- The contracts of this crate's public functions: what each says of what it was given, of what it returns, r, and of the rows after it.
+use Rattle.std.specs.Prelude.{◌≡◌, List}
+use Rattle.model.specs.declared.elements.Element.{Element}
 use Rattle.model.specs.declared.elements.TaskSet.{TaskSet}
-use Rattle.model.specs.Demand.{f}
-use Rattle.places.specs.Columns.{step_in, cost_in, column}
+use Rattle.places.specs.declared.columns.Place.{Place}
+use Rattle.places.specs.Columns.{place_of, laid}
 
--- of a set and the columns next, step and cost
-abbrev pub LaySays : TaskSet → List ℕ → List ℕ → List ℕ → List ℕ → List ℕ → List ℕ → Type 0
-LaySays t next step cost next' step' cost' = (next' ≡ column f t next) × (step' ≡ column step_in t step) × (cost' ≡ column cost_in t cost)
+abbrev pub PlaceOfSays : Element → Place → Type 0
+PlaceOfSays e r = r ≡ place_of e
+
+-- of a set and the rows
+abbrev pub LaySays : TaskSet → List Place → List Place → Type 0
+LaySays t rows rows' = rows' ≡ laid t rows

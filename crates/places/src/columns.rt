@@ -1,10 +1,10 @@
 // The dates of each place, as numbers.
 ghost use Rattle.std.specs.Prelude.{◌≡◌};
 ghost use Rattle.places.specs.Columns.{step_of};
-ghost use Rattle.places.specs.FunctionContracts.{LaySays};
+ghost use Rattle.places.specs.FunctionContracts.{PlaceOfSays, LaySays};
 
 use model::elements::{PLACES, first_due};
-use model::{Period, TaskSet};
+use model::{Element, Period, TaskSet};
 
 // What a place has for its next length when none is left.
 pub const NONE_LEFT: u64 = 0xffff_ffff_ffff_ffff;
@@ -12,37 +12,41 @@ pub const NONE_LEFT: u64 = 0xffff_ffff_ffff_ffff;
 // No bound of the exact test is above this.
 const MOST_BOUND: u64 = 2_147_483_648;
 
+// The next length at which an element is due, the step from one date to the next, and its cost.
+#[derive(Clone, Copy)]
+pub struct Place {
+    pub next: u64,
+    pub step: u64,
+    pub cost: u64,
+}
+
 // A single event's step leads past every bound.
 fn step_of(period: Period) -> u64
     ensures { result ≡ step_of period }
 {
     match period {
         Period::Once => MOST_BOUND,
-        Period::Every(p) => p as u64,
+        Period::Every(p) => u64::from(p),
     }
 }
 
-// Lays out each counted place's first due length, the step from one date to the next, and its cost; other places stay.
-pub fn lay(
-    set: TaskSet,
-    next: &mut [u64; PLACES],
-    step: &mut [u64; PLACES],
-    cost: &mut [u64; PLACES],
-)
-    ensures { LaySays set next.old step.old cost.old next.new step.new cost.new }
+// At the start the next length is the first due.
+pub fn place_of(e: Element) -> Place
+    ensures { PlaceOfSays e result }
 {
-    let count = if PLACES < set.count {
-        PLACES
-    } else {
-        set.count
-    };
-    let mut i: usize = 0;
-    while i < count {
-        let e = set.table[i];
-        let period = e.period;
-        step[i] = step_of(period);
-        next[i] = first_due(e);
-        cost[i] = e.cost as u64;
-        i = i + 1;
+    Place {
+        next: first_due(e),
+        step: step_of(e.period),
+        cost: u64::from(e.cost),
+    }
+}
+
+// Lays out each counted place; other places stay.
+#[tactic(auto, unfolding(crate::specs::Columns::laid))]
+pub fn lay(set: TaskSet, places: &mut [Place; PLACES])
+    ensures { LaySays set places.old places.new }
+{
+    for (i, e) in set.counted().iter().enumerate() {
+        places[i] = place_of(*e);
     }
 }

@@ -1,26 +1,24 @@
-use Rattle.std.proofs.Common.{rules, ◌≡◌, sym, ◌∙◌, length}
-use Rattle.model.specs.Elements.{places, filler}
+use Rattle.std.proofs.Common.{sym}
+use Rattle.std.proofs.lemmas.Result.{err_from_is_err_and}
+use Rattle.model.specs.Elements.{filler}
 use Rattle.model.proofs.CheckingASet.{too_many, start, end, next, found}
 use Rattle.model.proofs.checks.check_set.Goals as goal
 
-pub returns-then-count-gt-PLACES : goal.returns-then-count-gt-PLACES
-returns-then-count-gt-PLACES c = c.turned.ensures ∙ too_many _ c.if-count-gt-PLACES.true
+pub returns-in_err-unless : goal.returns-in_err-unless
+returns-in_err-unless c =
+    let p = err_from_is_err_and c.from_residual.result c.from_residual.ensures.1 in
+    rw (p.1, p.2) (too_many _ c.in_err-unless.ensures)
 
-pub loop-i-init : goal.loop-i-init
-loop-i-init c = start _ c.if-count-gt-PLACES.false
+pub loop-place-init : goal.loop-place-init
+loop-place-init c = start _ (sym c.in_ok-unless.ensures)
 
-pub returns-in_default : goal.returns-in_default
-returns-in_default c =
-    let long : length c.args.set.table ≡ places = search rules in
-    c.in_default.is
-    ∙ found _ long _ c.loop-i.invariant filler c.loop-i-test.true (sym c.check_element-found.ensures ∙ c.in_default.is)
+pub returns-in_err-check_element : goal.returns-in_err-check_element
+returns-in_err-check_element c =
+    let p = err_from_is_err_and c.from_residual-in_err-check_element.result c.from_residual-in_err-check_element.ensures.1 in
+    rw (p.1, p.2) (found _ _ c.loop-place.invariant _ c.counted-e-items.ensures filler c.loop-place-test.true c.in_err-check_element.ensures)
 
-pub loop-i-preserved : goal.loop-i-preserved
-loop-i-preserved c =
-    let long : length c.args.set.table ≡ places = search rules in
-    next _ long _ c.loop-i.invariant filler c.loop-i-test.true (sym c.check_element-found.ensures ∙ c.in-Fine.is)
+pub loop-place-preserved : goal.loop-place-preserved
+loop-place-preserved c = next _ _ c.loop-place.invariant _ c.counted-e-items.ensures filler c.loop-place-test.true c.in_ok-check_element.ensures
 
 pub returns : goal.returns
-returns c =
-    let long : length c.args.set.table ≡ places = search rules in
-    end _ long _ c.loop-i.invariant c.loop-i-test.false
+returns c = end _ _ c.loop-place.invariant _ c.counted-e-items.ensures c.loop-place-test.false

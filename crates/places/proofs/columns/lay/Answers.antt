@@ -1,8 +1,7 @@
-use Rattle.places.proofs.ColumnLaws.{more, end}
+use Rattle.std.proofs.Common.{arith}
+use Rattle.std.proofs.lemmas.Grind.{common_steps}
+use Rattle.places.proofs.ColumnLaws.{laid_more}
 use Rattle.places.proofs.columns.lay.Goals as goal
 
 pub loop-i-preserved : goal.loop-i-preserved
-loop-i-preserved c = rw (c.step_of.ensures, c.first_due.ensures) (more c.loop-i.invariant c.loop-i-test.true)
-
-pub returns : goal.returns
-returns c = end c.loop-i.invariant c.loop-i-test.false
+loop-i-preserved c = rw (c.place_of.ensures, c.loop-i.invariant) (laid_more _ _ _ _ _ c.loop-i-test.true (grind (arith, common_steps)))

@@ -1,9 +1,6 @@
-use Rattle.std.proofs.Common.{◌-◌}
-use Rattle.places.proofs.ColumnLaws.{Laying}
+use Rattle.std.proofs.Common.{◌≡◌, ◌++◌, map, take, drop}
+use Rattle.places.specs.Columns.{place_of}
 use Rattle.places.proofs.columns.lay.Given as goal
 
 abbrev pub invariant-loop-i : goal.invariant-loop-i
-invariant-loop-i l = Laying l.fn.set l.initial.next l.initial.step l.initial.cost l.next l.step l.cost l.count l.i
-
-abbrev pub decreases-loop-i : goal.decreases-loop-i
-decreases-loop-i l = l.count - l.i
+invariant-loop-i l = l.places ≡ map place_of (take l.i l.e-items) ++ drop l.i l.initial.places
