@@ -2,7 +2,7 @@
 use Prim.Native.Nat.{ℕ}
 use mathlib.Core.Path.{◌≡◌, sym, ◌∙◌}
 use mathlib.Core.List.{List}
-use Rattle.model.specs.declared.answers.Answer.{Answer}
+use Rattle.model.specs.Answers.{Answer}
 use Rattle.model.specs.Promises.{Promises}
 use Rattle.printer.specs.declared.answers.Lines.{Lines}
 use Rattle.printer.specs.FunctionContracts.{PutAnswersSays}

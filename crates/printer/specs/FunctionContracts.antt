@@ -1,6 +1,6 @@
 -- The contract of `put_answers`: what it says of four answers and a lent buffer, of what it returns, r, and of the buffer after it.
 use Rattle.std.specs.Prelude.{ℕ, ◌≡◌, ◌≤◌, List, length}
-use Rattle.model.specs.declared.answers.Answer.{Answer}
+use Rattle.model.specs.Answers.{Answer}
 use Rattle.model.specs.Buffers.{over}
 use Rattle.printer.specs.declared.answers.Lines.{Lines}
 use Rattle.printer.specs.Answered.{printed_of}

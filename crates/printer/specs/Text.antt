@@ -3,7 +3,7 @@ use Rattle.std.specs.Prelude.{ℕ, List, [], ◌∷◌, ◌++◌, flat_map, code
 use Rattle.std.specs.Fmt.{decimal}
 use Rattle.model.specs.declared.answers.Refusal.{Refusal}
 use Rattle.model.specs.declared.answers.Verdict.{Verdict}
-use Rattle.model.specs.Answers.{values}
+use Rattle.model.specs.Answers.{number_of, values}
 
 -- a number after a blank
 abbrev pub field : ℕ → List ℕ
@@ -28,4 +28,4 @@ verdict_line name verdict =
 
 -- ""refused", number, place"
 abbrev pub refused_line : Refusal → List ℕ
-refused_line r = line (codes "refused") (r.number ∷ r.place ∷ [])
+refused_line r = line (codes "refused") (number_of r.reason ∷ r.place ∷ [])

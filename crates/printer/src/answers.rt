@@ -1,13 +1,12 @@
 // The text of four answers.
 ghost use Rattle.std.specs.Prelude.{◌+◌, ◌≤◌, ◌≡◌, length};
-ghost use Rattle.printer.specs.Answered.{given, lines, shown_of};
+ghost use Rattle.printer.specs.Answered.{lines, shown_of};
 ghost use Rattle.printer.specs.Growing.{Grows};
 ghost use Rattle.printer.specs.FunctionContracts.{PutAnswersSays};
 ghost use Rattle.printer.specs.Text.{verdict_line, refused_line};
 
 use crate::text::{ROOM, Text, push_line};
-use model::answers::values_of;
-use model::{Answer, Refusal, Verdict};
+use model::{Refusal, Values, Verdict};
 
 // What stands for each line: the exact test's, and those of k = 1, 2 and 100.
 #[derive(Clone, Copy)]
@@ -18,25 +17,16 @@ pub struct Lines<T> {
     pub hundred: T,
 }
 
-fn given(answer: Answer) -> Result<Verdict, Refusal>
-    ensures { result ≡ given answer }
-{
-    match answer {
-        Answer::Given(v) => Ok(v),
-        Answer::Refused(r) => Err(r),
-    }
-}
-
 // The first refusal decides.
 #[tactic(auto, unfolding(crate::specs::Answered::first_refusal))]
-fn shown_of(answers: Lines<Answer>) -> Result<Lines<Verdict>, Refusal>
+fn shown_of(answers: Lines<Result<Verdict, Refusal>>) -> Result<Lines<Verdict>, Refusal>
     ensures { result ≡ shown_of answers }
 {
     Ok(Lines {
-        exact: given(answers.exact)?,
-        one: given(answers.one)?,
-        two: given(answers.two)?,
-        hundred: given(answers.hundred)?,
+        exact: answers.exact?,
+        one: answers.one?,
+        two: answers.two?,
+        hundred: answers.hundred?,
     })
 }
 
@@ -44,14 +34,18 @@ fn push_refusal(text: &mut Text, r: Refusal)
     requires { length text.old.bytes + 50 ≤ 512 }
     ensures { Grows 50 (refused_line r) text.old.bytes text.new.bytes }
 {
-    push_line(text, "refused", &[u64::from(r.number), r.place as u64]);
+    push_line(
+        text,
+        "refused",
+        &[u64::from(u32::from(r.reason)), r.place as u64],
+    );
 }
 
 fn push_verdict(text: &mut Text, name: &str, verdict: Verdict)
     requires { length text.old.bytes + (length name.now + 85) ≤ 512 }
     ensures { Grows (length name.now + 85) (verdict_line name.now verdict) text.old.bytes text.new.bytes }
 {
-    let v = values_of(verdict);
+    let v = Values::from(verdict);
     push_line(text, name, &[v.verdict, v.interval, v.demand, v.count]);
 }
 
@@ -66,7 +60,7 @@ fn push_verdicts(text: &mut Text, verdicts: Lines<Verdict>)
 }
 
 // Puts the text of the answers of the exact test and of k = 1, 2 and 100 at the start of out, and answers how many bytes that are.
-pub fn put_answers(answers: Lines<Answer>, out: &mut [u8; ROOM]) -> usize
+pub fn put_answers(answers: Lines<Result<Verdict, Refusal>>, out: &mut [u8; ROOM]) -> usize
     ensures { PutAnswersSays answers out.old result out.new }
 {
     let mut text = Text::new();
