@@ -1,113 +1,90 @@
--- What holds whenever `move_on` turns to the place i. Assumes nothing.
-use Prim.Native.Nat.{ℕ, ◌+◌, ◌*◌, ◌≤◌, ◌<◌}
-use mathlib.Core.Path.{◌≡◌, refl, ap, ◌∙◌}
-use mathlib.Core.Bool.{true, cond}
-use mathlib.Core.List.{List}
+-- What holds whenever `move_on` turns to the row i. Assumes nothing.
+use Prim.Native.Nat.{ℕ, suc, ◌+◌, ◌*◌, ◌≤◌, ◌<◌}
+use mathlib.Core.Path.{◌≡◌, refl, sym, ap, ◌∙◌}
+use mathlib.Core.Bool.{true}
+use mathlib.Core.List.{List, ◌∷◌, ◌++◌, map}
 use native.Mathlib.Omega.{arith}
-use borrow.Author.Count.{below_more}
 use borrow.Author.Tests.{lt-ltb, le-ltb, eq-eqb, ne_eqb}
-use lib.Dec.{eqb}
-use lib.ListN.{length, get_or, set, length-set}
-use lib.Seq.{get_or-set_same, get_or-set_other}
+use lib.ListN.{length, length-map, get_or, set, take, drop}
+use lib.Seq.{length-take-le, drop-cons, get_or-append_seam, set-append_seam}
+use Rattle.std.proofs.Common.{append_assoc, add-one}
+use Rattle.std.proofs.lemmas.List.{map_more}
+use Rattle.std.specs.List.{sum_by}
+use Rattle.std.proofs.lemmas.List.Sums.{sum_by_more}
 use Rattle.model.specs.Elements.{most_cost, places}
-use Rattle.theory.specs.Places.{sum_to}
-use Rattle.superposition_test.specs.Walk.{none, most_rise, Movable, on_from, rise_from, MovedOn}
-use Rattle.theory.proofs.PlaceLaws.{sum_to_next}
+use Rattle.model.proofs.OverLaws.{each_at}
+use Rattle.superposition_test.specs.declared.walk.Row.{Row}
+use Rattle.superposition_test.specs.Walk.{none, unused, most_rise, Small, Movable, has, moved_on, due_in, rise_in}
 
-module _ (next₀ step cost last rise : List ℕ) (n at : ℕ) where
-  -- the place i: its next length after, the cost that it adds, the slope that it adds
-  abbrev next_at : ℕ → ℕ
-  next_at i = cond (eqb (get_or next₀ i 0) at) (on_from at (get_or step i 0) (get_or last i 0)) (get_or next₀ i 0)
+pub record Moving (before : List Row) (at : ℕ) (rows : List Row) (i cost rise : ℕ) : Type 0 where
+  pub fit : Movable before at
+  pub moved : rows ≡ map (moved_on at) (take i before) ++ drop i before
+  pub due : cost ≡ sum_by (due_in at) (take i before)
+  pub slope : rise ≡ sum_by (rise_in at) (take i before)
+  pub due_small : cost ≤ i * most_cost
+  pub slope_small : rise ≤ i * most_rise
 
-  abbrev cost_at : ℕ → ℕ
-  cost_at i = cond (eqb (get_or next₀ i 0) at) (get_or cost i 0) 0
+module _ {before : List Row} {at : ℕ} {rows : List Row} {i cost rise : ℕ} (w : Moving before at rows i cost rise) (l : i < length before) where
+  size : length (map (moved_on at) (take i before)) ≡ i
+  size = length-map (take i before) (moved_on at) ∙ length-take-le i before (omega arith)
 
-  abbrev rise_at : ℕ → ℕ
-  rise_at i = cond (eqb (get_or next₀ i 0) at) (rise_from at (get_or last i 0) (get_or rise i 0)) 0
+  -- the row at hand
+  abbrev row : Row
+  row = get_or rows i unused
 
-  pub record Moving (next : List ℕ) (i due slope : ℕ) : Type 0 where
-    pub fit : Movable next₀ step cost rise n at
-    pub upto : i ≤ n
-    pub long : length next ≡ places
-    pub done : (j : ℕ) → j < i → get_or next j 0 ≡ next_at j
-    pub rest : (j : ℕ) → i ≤ j → get_or next j 0 ≡ get_or next₀ j 0
-    pub dues : due ≡ sum_to cost_at i
-    pub slopes : slope ≡ sum_to rise_at i
-    pub due_small : due ≤ i * most_cost
-    pub slope_small : slope ≤ i * most_rise
+  here : row ≡ get_or before i unused
+  here =
+      let front = map (moved_on at) (take i before) in
+      rw (w.moved, drop-cons before i unused l) (
+        ap (λ n. get_or (front ++ get_or before i unused ∷ drop (suc i) before) n unused) (sym size)
+        ∙ get_or-append_seam front (get_or before i unused) (drop (suc i) before) unused
+      )
 
-  pub start : Movable next₀ step cost rise n at → Moving next₀ 0 0 0
-  unfolding sum_to
-  start fit = record {
-    fit = fit;
-    upto = omega arith;
-    long = fit.long;
-    done = λ j l. absurd (omega arith);
-    rest = λ j l. refl;
-    dues = refl;
-    slopes = refl;
-    due_small = omega arith;
-    slope_small = omega arith;
-  }
+  pub small : Small row
+  small = rw here (each_at Small before i unused l w.fit.small)
 
-  module _ (next : List ℕ) (i due slope : ℕ) (w : Moving next i due slope) where
-    pub end : n ≤ i → MovedOn next₀ next step cost last rise n at (record { cost = due; rise = slope })
-    end h =
-        let e : i ≡ n = omega arith in
-        record {
-          long = w.long;
-          nexts = λ j l. w.done j (omega arith);
-          due = w.dues ∙ ap (sum_to cost_at) e;
-          slope = w.slopes ∙ ap (sum_to rise_at) e;
-        }
+  -- one row more
+  turn :
+      (r : Row) (cost' rise' : ℕ) → r ≡ moved_on at row → cost' ≡ cost + due_in at row → rise' ≡ rise + rise_in at row →
+      due_in at row ≤ most_cost → rise_in at row ≤ most_rise → Moving before at (set rows i r) (i + 1) cost' rise'
+  turn r cost' rise' p q t u v =
+      let front = map (moved_on at) (take i before) in
+      record {
+        fit = w.fit;
+        moved =
+            rw (p, here, w.moved, map_more (moved_on at) before i unused l, drop-cons before i unused l, add-one) (
+              ap (λ n. set (front ++ get_or before i unused ∷ drop (suc i) before) n (moved_on at (get_or before i unused))) (sym size)
+              ∙ set-append_seam front _ _ _
+              ∙ sym (append_assoc front _ _)
+            );
+        due = q ∙ rw here (omega (arith, sum_by_more (due_in at) before i unused l, w.due));
+        slope = t ∙ rw here (omega (arith, sum_by_more (rise_in at) before i unused l, w.slope));
+        due_small = omega (arith, w.due_small);
+        slope_small = omega (arith, w.slope_small);
+      }
 
-    module _ (h : i < n) where
-      -- a place that has another length
-      pub stays : (get_or next i 0 ≡ at → ⊥) → Moving next (i + 1) due slope
-      stays o =
-          let m = ne_eqb (get_or next₀ i 0) at (λ e. o (w.rest i (omega arith) ∙ e)) in
-          record {
-            fit = w.fit;
-            upto = omega arith;
-            long = w.long;
-            done = below_more _ i w.done (rw m (w.rest i (omega arith)));
-            rest = λ j l. w.rest j (omega arith);
-            dues = rw (sum_to_next cost_at i, m) (omega (arith, w.dues));
-            slopes = rw (sum_to_next rise_at i, m) (omega (arith, w.slopes));
-            due_small = omega (arith, w.due_small);
-            slope_small = omega (arith, w.slope_small);
-          }
+  -- a row that has another length
+  pub stays : (row.place.next ≡ at → ⊥) → Moving before at (set rows i row) (i + 1) cost rise
+  stays o =
+      let m = ne_eqb row.place.next at o in
+      turn row cost rise (rw m refl) (rw m (omega arith)) (rw m (omega arith)) (rw m (omega arith)) (rw m (omega arith))
 
-      module _ (o : get_or next i 0 ≡ at) where
-        has : eqb (get_or next₀ i 0) at ≡ true
-        has = eq-eqb (get_or next₀ i 0) at (omega (arith, w.rest i (omega arith)))
+  module _ (o : row.place.next ≡ at) where
+    has_it : has at row ≡ true
+    has_it = eq-eqb row.place.next at o
 
-        goes :
-            (a b : ℕ) → a ≡ on_from at (get_or step i 0) (get_or last i 0) → b ≡ rise_from at (get_or last i 0) (get_or rise i 0) → b ≤ most_rise →
-            Moving (set next i a) (i + 1) (due + get_or cost i 0) (slope + b)
-        goes a b p q u = record {
-          fit = w.fit;
-          upto = omega arith;
-          long = length-set next i a ∙ w.long;
-          done = below_more _ i
-              (λ j l. get_or-set_other next i j a 0 (omega arith) ∙ w.done j l)
-              (rw has (get_or-set_same next i a 0 (omega (arith, w.fit.few, w.long)) ∙ p));
-          rest = λ j l. get_or-set_other next i j a 0 (omega arith) ∙ w.rest j (omega arith);
-          dues = rw (sum_to_next cost_at i, has) (omega (arith, w.dues));
-          slopes = rw (sum_to_next rise_at i, has) (omega (arith, w.slopes, q));
-          due_small = omega (arith, w.due_small, w.fit.costs i h);
-          slope_small = omega (arith, w.slope_small, u);
-        }
+    -- one with a length further on
+    pub goes_on :
+        at < row.last →
+        Moving before at (set rows i (record row { place = record row.place { next = at + row.place.step } })) (i + 1) (cost + row.place.cost) rise
+    goes_on b =
+        let m = lt-ltb at row.last b in
+        turn _ _ _ (rw (has_it, m) refl) (rw has_it refl) (rw (has_it, m) (omega arith)) (rw has_it small.cost) (rw (has_it, m) (omega arith))
 
-        -- a place with a length further on
-        pub goes_on : at < get_or last i 0 → Moving (set next i (at + get_or step i 0)) (i + 1) (due + get_or cost i 0) slope
-        goes_on l =
-            let m = lt-ltb at (get_or last i 0) l in
-            let z : slope + 0 ≡ slope = omega arith in
-            rw z at (goes (at + get_or step i 0) 0 (rw m) (rw m) (omega arith))
-
-        -- a place with none left
-        pub goes_out : get_or last i 0 ≤ at → Moving (set next i none) (i + 1) (due + get_or cost i 0) (slope + get_or rise i 0)
-        goes_out l =
-            let m = le-ltb at (get_or last i 0) l in
-            goes none (get_or rise i 0) (rw m) (rw m) (w.fit.rises i h)
+    -- one with none left
+    pub goes_out :
+        row.last ≤ at →
+        Moving before at (set rows i (record row { place = record row.place { next = none } })) (i + 1) (cost + row.place.cost) (rise + row.rise)
+    goes_out b =
+        let m = le-ltb at row.last b in
+        turn _ _ _ (rw (has_it, m) refl) (rw has_it refl) (rw (has_it, m) refl) (rw has_it small.cost) (rw (has_it, m) small.rise)
