@@ -4,4 +4,4 @@ use Rattle.places.proofs.ColumnLaws.{step_within}
 use Rattle.superposition_test.proofs.walk.row_of.Goals as goal
 
 pub nonzero_div-result : goal.nonzero_div-result
-nonzero_div-result c = omega (arith, c.place_of-place.ensures, (step_within c.args.e.period (legal_is c.args.e c.requires.legal).period).0)
+nonzero_div-result c = rw c.place_of-place.ensures (omega (arith, (step_within c.args.e.period (legal_is c.args.e c.requires.legal).period).0))

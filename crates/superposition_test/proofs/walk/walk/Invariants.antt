@@ -1,11 +1,15 @@
-use Rattle.std.proofs.Common.{◌≡◌, ◌++◌, ◌-◌, map, take, drop}
+use Rattle.std.proofs.Common.{◌≡◌, ◌-◌, length, map, take}
+use Rattle.model.specs.Elements.{places}
 use Rattle.theory.specs.Approximation.{budget}
 use Rattle.superposition_test.specs.Walk.{row_of}
 use Rattle.superposition_test.proofs.WalkLaws.{Walking}
 use Rattle.superposition_test.proofs.walk.walk.Given as goal
 
 abbrev pub invariant-loop-i : goal.invariant-loop-i
-invariant-loop-i l = l.table ≡ map (row_of l.k l.h) (take l.i l.e-items) ++ drop l.i l.initial.table
+invariant-loop-i l = record {
+  long : length l.table ≡ places;
+  laid : take l.i l.table ≡ map (row_of l.k l.h) (take l.i l.e-items);
+}
 
 abbrev pub invariant-loop-rows : goal.invariant-loop-rows
 invariant-loop-rows l = Walking l.fn.set.elements.now l.k l.h l.rows l.before l.scaled l.slope l.count

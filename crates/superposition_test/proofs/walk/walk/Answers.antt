@@ -1,0 +1,83 @@
+use Rattle.std.proofs.Common.{arith, rules, get_or, ◌≡◌, sym, ap, ◌∙◌, true, [], ◌∷◌, ◌++◌, length, take_all}
+use Rattle.std.proofs.lemmas.List.{map_more, take_more_set}
+use Rattle.model.specs.Elements.{filler, is_legal}
+use Rattle.model.proofs.OverLaws.{all_each, each_at}
+use Rattle.superposition_test.specs.Walk.{row_of}
+use Rattle.superposition_test.proofs.WalkLaws.{Turning, start, none_left, movable, turn, sum_fits, top_fits, failing, again}
+use Rattle.superposition_test.proofs.walk.walk.Goals as goal
+use Rattle.superposition_test.proofs.walk.walk.Goals.{After-move_on-moved}
+
+pub row_of-requires-clause-legal : goal.row_of-requires-clause-legal
+row_of-requires-clause-legal c =
+    let s = c.args.set.elements.now in
+    each_at (λ e. is_legal e ≡ true) s c.loop-i.i _ c.loop-i-test.true (all_each s is_legal c.args.set.legal)
+
+pub loop-i-preserved : goal.loop-i-preserved
+loop-i-preserved c =
+    let k = c.loop-i.invariant in
+    record {
+      long = search rules;
+      laid =
+          rw c.row_of.ensures (
+            take_more_set c.loop-i.table c.loop-i.i _ (omega (arith, c.loop-i-test.true, c.args.set.few, k.long))
+            ∙ ap (λ rows. rows ++ row_of c.args.k c.args.h (get_or c.args.set.elements.now c.loop-i.i filler) ∷ []) k.laid
+            ∙ sym (map_more (row_of c.args.k c.args.h) c.args.set.elements.now c.loop-i.i filler c.loop-i-test.true)
+          );
+    }
+
+pub loop-rows-init : goal.loop-rows-init
+loop-rows-init c =
+    let s = c.args.set.elements.now in
+    let all : c.loop-i.i ≡ length s = omega (arith, c.loop-i.auto.i-end, c.loop-i-test.false) in
+    start s _ _ c.args.set.legal c.args.set.few c.requires _ (rw all at c.loop-i.invariant.laid ∙ rw (take_all (length s) s (omega arith)))
+
+pub returns-then-at-clause-verdict : goal.returns-then-at-clause-verdict
+returns-then-at-clause-verdict c = none_left _ _ _ c.loop-rows.invariant (rw c.if-at.true at c.least-at.ensures)
+
+pub move_on-moved-requires : goal.move_on-moved-requires
+move_on-moved-requires c = movable _ _ _ c.loop-rows.invariant _ c.least-at.ensures (omega (arith, c.if-at.false))
+
+-- every row that has the length has moved on
+turned : (c : After-move_on-moved) →
+    Turning c.args.set.elements.now c.args.k c.args.h c.move_on-moved.new.rows
+    c.loop-rows.before c.loop-rows.scaled c.loop-rows.slope c.loop-rows.count
+    c.least-at.result c.move_on-moved.result.cost c.move_on-moved.result.rise
+turned c = turn _ _ _ c.loop-rows.invariant _ c.least-at.ensures (omega (arith, c.if-at.false)) c.move_on-moved.ensures
+
+pub overflow_sub-scaled : goal.overflow_sub-scaled
+overflow_sub-scaled c = omega (arith, (turned (goal.at.overflow_sub-scaled c).After-move_on-moved).later)
+
+pub overflow_mul-scaled : goal.overflow_mul-scaled
+overflow_mul-scaled c = omega (arith, sum_fits _ _ _ (turned (goal.at.overflow_mul-scaled c).After-move_on-moved))
+
+pub overflow_mul-scaled-in-loop-rows : goal.overflow_mul-scaled-in-loop-rows
+overflow_mul-scaled-in-loop-rows c = omega (arith, sum_fits _ _ _ (turned (goal.at.overflow_mul-scaled-in-loop-rows c).After-move_on-moved))
+
+pub overflow_add-scaled : goal.overflow_add-scaled
+overflow_add-scaled c = omega (arith, sum_fits _ _ _ (turned (goal.at.overflow_add-scaled c).After-move_on-moved))
+
+pub overflow_add-scaled-in-loop-rows : goal.overflow_add-scaled-in-loop-rows
+overflow_add-scaled-in-loop-rows c = omega (arith, sum_fits _ _ _ (turned (goal.at.overflow_add-scaled-in-loop-rows c).After-move_on-moved))
+
+pub overflow_add-count : goal.overflow_add-count
+overflow_add-count c =
+    let w = turned (goal.at.overflow_add-count c).After-move_on-moved in
+    omega (arith, w.few, w.later, w.numbers.length)
+
+pub overflow_mul-h : goal.overflow_mul-h
+overflow_mul-h c = omega (arith, top_fits _ _ _ (turned (goal.at.overflow_mul-h c).After-move_on-moved))
+
+pub returns-then-h-at-clause-short : goal.returns-then-h-at-clause-short
+returns-then-h-at-clause-short c = omega (arith, (turned (goal.at.returns-then-h-at-clause-short c).After-move_on-moved).numbers.length)
+
+pub returns-then-h-at-clause-verdict : goal.returns-then-h-at-clause-verdict
+returns-then-h-at-clause-verdict c = failing _ _ _ (turned (goal.at.returns-then-h-at-clause-verdict c).After-move_on-moved) c.if-h-at.true
+
+pub overflow_add-slope : goal.overflow_add-slope
+overflow_add-slope c = omega (arith, (turned (goal.at.overflow_add-slope c).After-move_on-moved).slope_small)
+
+pub loop-rows-smaller : goal.loop-rows-smaller
+loop-rows-smaller c = omega (arith, (turned (goal.at.loop-rows-smaller c).After-move_on-moved).within)
+
+pub loop-rows-preserved : goal.loop-rows-preserved
+loop-rows-preserved c = again _ _ _ (turned (goal.at.loop-rows-preserved c).After-move_on-moved) c.if-h-at.false
