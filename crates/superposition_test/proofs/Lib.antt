@@ -1,5 +1,4 @@
 pub mod LeastLaws
-pub mod LimitLaws
 pub mod MoveLaws
 pub mod NextLaws
 pub mod Outcomes

@@ -36,8 +36,8 @@ module _ {before : List Row} {at : ℕ} {rows : List Row} {i cost rise : ℕ} (w
   here =
       let front = map (moved_on at) (take i before) in
       rw (w.moved, drop-cons before i unused l) (
-        ap (λ n. get_or (front ++ get_or before i unused ∷ drop (suc i) before) n unused) (sym size)
-        ∙ get_or-append_seam front (get_or before i unused) (drop (suc i) before) unused
+      ap (λ n. get_or (front ++ get_or before i unused ∷ drop (suc i) before) n unused) (sym size)
+      ∙ get_or-append_seam front (get_or before i unused) (drop (suc i) before) unused
       )
 
   pub small : Small row
@@ -53,9 +53,9 @@ module _ {before : List Row} {at : ℕ} {rows : List Row} {i cost rise : ℕ} (w
         fit = w.fit;
         moved =
             rw (p, here, w.moved, map_more (moved_on at) before i unused l, drop-cons before i unused l, add-one) (
-              ap (λ n. set (front ++ get_or before i unused ∷ drop (suc i) before) n (moved_on at (get_or before i unused))) (sym size)
-              ∙ set-append_seam front _ _ _
-              ∙ sym (append_assoc front _ _)
+            ap (λ n. set (front ++ get_or before i unused ∷ drop (suc i) before) n (moved_on at (get_or before i unused))) (sym size)
+            ∙ set-append_seam front _ _ _
+            ∙ sym (append_assoc front _ _)
             );
         due = q ∙ rw here (omega (arith, sum_by_more (due_in at) before i unused l, w.due));
         slope = t ∙ rw here (omega (arith, sum_by_more (rise_in at) before i unused l, w.slope));

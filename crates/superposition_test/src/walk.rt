@@ -65,7 +65,8 @@ fn row_of(e: Element, k: u64, h: u64) -> Row
 fn least(rows: &[Row]) -> u64
     ensures { result ≡ fold (λ best r. min best r.place.next) none rows.now }
 {
-    rows.iter().fold(NONE_LEFT, |best, row| best.min(row.place.next))
+    rows.iter()
+        .fold(NONE_LEFT, |best, row| best.min(row.place.next))
 }
 
 // Moves on every row that has this length for its next.

@@ -23,7 +23,7 @@ loop-row-preserved c =
     let k = c.loop-row.invariant in
     let h = c.loop-row-test.true in
     elim c.if-row-at.branch [
-      | then-row-at+then-at-row w ↦ rw (w.rows-is, w.cost-is, w.rise-is) (goes_on k h w.if-row-at.true w.if-at-row.true)
-      | then-row-at+else-at-row w ↦ rw (w.rows-is, w.cost-is, w.rise-is) (goes_out k h w.if-row-at.true w.if-at-row.false)
+      | then-row-at+then-at-row w ↦ rw (w.rows-is, w.cost-is, w.rise-is) (goes_on k h w.if-row-at.true (omega (arith, w.if-at-row.true)))
+      | then-row-at+else-at-row w ↦ rw (w.rows-is, w.cost-is, w.rise-is) (goes_out k h w.if-row-at.true (omega (arith, w.if-at-row.false)))
       | else-row-at w ↦ rw (w.rows-is, w.cost-is, w.rise-is) (stays k h w.if-row-at.false)
     ]

@@ -3,7 +3,7 @@ use Rattle.std.proofs.lemmas.List.{map_more, take_more_set}
 use Rattle.model.specs.Elements.{filler, is_legal}
 use Rattle.model.proofs.OverLaws.{all_each, each_at}
 use Rattle.superposition_test.specs.Walk.{row_of}
-use Rattle.superposition_test.proofs.WalkLaws.{Turning, start, none_left, movable, turn, sum_fits, top_fits, failing, again}
+use Rattle.superposition_test.proofs.WalkLaws.{Turning, start, none_left, movable, turn, sum_fits, due_fits, top_fits, failing, again}
 use Rattle.superposition_test.proofs.walk.walk.Goals as goal
 use Rattle.superposition_test.proofs.walk.walk.Goals.{After-move_on-moved}
 
@@ -19,9 +19,9 @@ loop-i-preserved c =
       long = search rules;
       laid =
           rw c.row_of.ensures (
-            take_more_set c.loop-i.table c.loop-i.i _ (omega (arith, c.loop-i-test.true, c.args.set.few, k.long))
-            ∙ ap (λ rows. rows ++ row_of c.args.k c.args.h (get_or c.args.set.elements.now c.loop-i.i filler) ∷ []) k.laid
-            ∙ sym (map_more (row_of c.args.k c.args.h) c.args.set.elements.now c.loop-i.i filler c.loop-i-test.true)
+          take_more_set c.loop-i.table c.loop-i.i _ (omega (arith, c.loop-i-test.true, c.args.set.few, k.long))
+          ∙ ap (λ rows. rows ++ row_of c.args.k c.args.h (get_or c.args.set.elements.now c.loop-i.i filler) ∷ []) k.laid
+          ∙ sym (map_more (row_of c.args.k c.args.h) c.args.set.elements.now c.loop-i.i filler c.loop-i-test.true)
           );
     }
 
@@ -62,7 +62,7 @@ overflow_add-scaled-in-loop-rows c = omega (arith, sum_fits _ _ _ (turned (goal.
 pub overflow_add-count : goal.overflow_add-count
 overflow_add-count c =
     let w = turned (goal.at.overflow_add-count c).After-move_on-moved in
-    omega (arith, w.few, w.later, w.numbers.length)
+    omega (arith, w.few, w.later, w.numbers.length, due_fits _ _ _ w)
 
 pub overflow_mul-h : goal.overflow_mul-h
 overflow_mul-h c = omega (arith, top_fits _ _ _ (turned (goal.at.overflow_mul-h c).After-move_on-moved))
