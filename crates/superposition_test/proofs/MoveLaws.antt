@@ -1,30 +1,69 @@
 -- What holds whenever `move_on` turns to the row i. Assumes nothing.
-use Prim.Native.Nat.{ℕ, suc, ◌+◌, ◌*◌, ◌≤◌, ◌<◌}
+use Prim.Native.Nat.{ℕ, suc, ◌+◌, ◌*◌, ◌≤◌, ◌<◌, min}
 use mathlib.Core.Path.{◌≡◌, refl, sym, ap, ◌∙◌}
-use mathlib.Core.Bool.{true}
+use mathlib.Core.Bool.{Bool, true, false, cond}
 use mathlib.Core.List.{List, ◌∷◌, ◌++◌, map}
 use native.Mathlib.Omega.{arith}
 use borrow.Author.Tests.{lt-ltb, le-ltb, eq-eqb, ne_eqb}
+use lib.Dec.{ltb}
 use lib.ListN.{length, length-map, get_or, set, take, drop}
 use lib.Seq.{length-take-le, drop-cons, get_or-append_seam, set-append_seam}
 use Rattle.std.proofs.Common.{append_assoc, add-one}
 use Rattle.std.proofs.lemmas.List.{map_more}
 use Rattle.std.specs.List.{sum_by}
-use Rattle.std.proofs.lemmas.List.Sums.{sum_by_more}
+use Rattle.std.proofs.lemmas.List.Sums.{sum_by_more, fold_push}
 use Rattle.model.specs.Elements.{most_cost, places}
 use Rattle.model.proofs.OverLaws.{each_at}
 use Rattle.superposition_test.specs.declared.walk.Row.{Row}
-use Rattle.superposition_test.specs.Walk.{none, unused, most_rise, Small, Movable, has, moved_on, due_in, rise_in}
+use Rattle.superposition_test.specs.Walk.{none, unused, most_rise, Small, Movable, least_next, has, moved_on, due_in, rise_in}
 
-pub record Moving (before : List Row) (at : ℕ) (rows : List Row) (i cost rise : ℕ) : Type 0 where
+pub record Moving (before : List Row) (at : ℕ) (rows : List Row) (i cost rise next : ℕ) : Type 0 where
   pub fit : Movable before at
   pub moved : rows ≡ map (moved_on at) (take i before) ++ drop i before
   pub due : cost ≡ sum_by (due_in at) (take i before)
   pub slope : rise ≡ sum_by (rise_in at) (take i before)
+  pub least : next ≡ least_next (map (moved_on at) (take i before))
   pub due_small : cost ≤ i * most_cost
   pub slope_small : rise ≤ i * most_rise
 
-module _ {before : List Row} {at : ℕ} {rows : List Row} {i cost rise : ℕ} (w : Moving before at rows i cost rise) (l : i < length before) where
+
+-- WHAT A ROW ADDS
+pub record Changed (at : ℕ) (r r' : Row) (cost cost' rise rise' : ℕ) : Type 0 where
+  pub row : r' ≡ moved_on at r
+  pub due : cost' ≡ cost + due_in at r
+  pub slope : rise' ≡ rise + rise_in at r
+
+module _ (at cost rise : ℕ) (r : Row) where
+  -- one that has another length
+  pub stays : (r.place.next ≡ at → ⊥) → Changed at r r cost cost rise rise
+  stays o =
+      let m = ne_eqb r.place.next at o in
+      record { row = rw m refl; due = rw m (omega arith); slope = rw m (omega arith) }
+
+  module _ (o : r.place.next ≡ at) where
+    has_it : has at r ≡ true
+    has_it = eq-eqb r.place.next at o
+
+    -- one with a length further on
+    pub goes_on : at < r.last → Changed at r (record r { place = record r.place { next = at + r.place.step } }) cost (cost + r.place.cost) rise rise
+    goes_on b = let m = lt-ltb at r.last b in record { row = rw (has_it, m) refl; due = rw has_it refl; slope = rw (has_it, m) (omega arith) }
+
+    -- one with none left
+    pub goes_out : r.last ≤ at → Changed at r (record r { place = record r.place { next = none } }) cost (cost + r.place.cost) rise (rise + r.rise)
+    goes_out b = let m = le-ltb at r.last b in record { row = rw (has_it, m) refl; due = rw has_it refl; slope = rw (has_it, m) refl }
+
+part_of : (b : Bool) (x n : ℕ) → x ≤ n → cond b x 0 ≤ n
+part_of true x n h = h
+part_of false x n h = omega arith
+
+rise_part : (r : Row) (at n : ℕ) → r.rise ≤ n → rise_in at r ≤ n
+rise_part r at n h = part_of (has at r) (cond (ltb at r.last) 0 r.rise) n (go (ltb at r.last))
+  where
+    go : (b : Bool) → cond b 0 r.rise ≤ n
+    go true = omega arith
+    go false = h
+
+module _ {before : List Row} {at : ℕ} {rows : List Row} {i cost rise next : ℕ} (w : Moving before at rows i cost rise next) (l : i < length before) where
   size : length (map (moved_on at) (take i before)) ≡ i
   size = length-map (take i before) (moved_on at) ∙ length-take-le i before (omega arith)
 
@@ -36,55 +75,31 @@ module _ {before : List Row} {at : ℕ} {rows : List Row} {i cost rise : ℕ} (w
   here =
       let front = map (moved_on at) (take i before) in
       rw (w.moved, drop-cons before i unused l) (
-      ap (λ n. get_or (front ++ get_or before i unused ∷ drop (suc i) before) n unused) (sym size)
-      ∙ get_or-append_seam front (get_or before i unused) (drop (suc i) before) unused
+        ap (λ n. get_or (front ++ get_or before i unused ∷ drop (suc i) before) n unused) (sym size)
+        ∙ get_or-append_seam front (get_or before i unused) (drop (suc i) before) unused
       )
 
   pub small : Small row
   small = rw here (each_at Small before i unused l w.fit.small)
 
   -- one row more
-  turn :
-      (r : Row) (cost' rise' : ℕ) → r ≡ moved_on at row → cost' ≡ cost + due_in at row → rise' ≡ rise + rise_in at row →
-      due_in at row ≤ most_cost → rise_in at row ≤ most_rise → Moving before at (set rows i r) (i + 1) cost' rise'
-  turn r cost' rise' p q t u v =
+  pub turn : {r : Row} {cost' rise' : ℕ} → Changed at row r cost cost' rise rise' → Moving before at (set rows i r) (i + 1) cost' rise' (min next r.place.next)
+  turn {r} {cost'} {rise'} c =
       let front = map (moved_on at) (take i before) in
+      let due_part = part_of (has at row) row.place.cost most_cost small.cost in
       record {
         fit = w.fit;
         moved =
-            rw (p, here, w.moved, map_more (moved_on at) before i unused l, drop-cons before i unused l, add-one) (
-            ap (λ n. set (front ++ get_or before i unused ∷ drop (suc i) before) n (moved_on at (get_or before i unused))) (sym size)
-            ∙ set-append_seam front _ _ _
-            ∙ sym (append_assoc front _ _)
+            rw (c.row, here, w.moved, map_more (moved_on at) before i unused l, drop-cons before i unused l, add-one) (
+              ap (λ n. set (front ++ get_or before i unused ∷ drop (suc i) before) n (moved_on at (get_or before i unused))) (sym size)
+              ∙ set-append_seam front _ _ _
+              ∙ sym (append_assoc front _ _)
             );
-        due = q ∙ rw here (omega (arith, sum_by_more (due_in at) before i unused l, w.due));
-        slope = t ∙ rw here (omega (arith, sum_by_more (rise_in at) before i unused l, w.slope));
-        due_small = omega (arith, w.due_small);
-        slope_small = omega (arith, w.slope_small);
+        due = c.due ∙ rw here (omega (arith, sum_by_more (due_in at) before i unused l, w.due));
+        slope = c.slope ∙ rw here (omega (arith, sum_by_more (rise_in at) before i unused l, w.slope));
+        least =
+            rw (c.row, here, w.least, map_more (moved_on at) before i unused l)
+            (sym (fold_push (λ best r. min best r.place.next) none front (moved_on at (get_or before i unused))));
+        due_small = omega (arith, w.due_small, c.due, due_part);
+        slope_small = omega (arith, w.slope_small, c.slope, rise_part row at most_rise small.rise);
       }
-
-  -- a row that has another length
-  pub stays : (row.place.next ≡ at → ⊥) → Moving before at (set rows i row) (i + 1) cost rise
-  stays o =
-      let m = ne_eqb row.place.next at o in
-      turn row cost rise (rw m refl) (rw m (omega arith)) (rw m (omega arith)) (rw m (omega arith)) (rw m (omega arith))
-
-  module _ (o : row.place.next ≡ at) where
-    has_it : has at row ≡ true
-    has_it = eq-eqb row.place.next at o
-
-    -- one with a length further on
-    pub goes_on :
-        at < row.last →
-        Moving before at (set rows i (record row { place = record row.place { next = at + row.place.step } })) (i + 1) (cost + row.place.cost) rise
-    goes_on b =
-        let m = lt-ltb at row.last b in
-        turn _ _ _ (rw (has_it, m) refl) (rw has_it refl) (rw (has_it, m) (omega arith)) (rw has_it small.cost) (rw (has_it, m) (omega arith))
-
-    -- one with none left
-    pub goes_out :
-        row.last ≤ at →
-        Moving before at (set rows i (record row { place = record row.place { next = none } })) (i + 1) (cost + row.place.cost) (rise + row.rise)
-    goes_out b =
-        let m = le-ltb at row.last b in
-        turn _ _ _ (rw (has_it, m) refl) (rw has_it refl) (rw (has_it, m) refl) (rw has_it small.cost) (rw (has_it, m) small.rise)

@@ -31,7 +31,7 @@ use Rattle.theory.proofs.SuperpositionIsShort.{visits_at_most}
 use Rattle.superposition_test.specs.declared.walk.Moved.{Moved}
 use Rattle.theory.specs.Sizes.{SuperpositionFits}
 use Rattle.superposition_test.specs.declared.walk.Row.{Row}
-use Rattle.superposition_test.specs.Walk.{none, Walkable, row_of, Small, Movable, MovedOn}
+use Rattle.superposition_test.specs.Walk.{none, Walkable, row_of, least_next, Small, Movable, MovedOn}
 use Rattle.theory.proofs.EverySumFits.{every_sum_fits}
 use Rattle.theory.proofs.ExactTestLaws.{Upto, upto_zero, upto_gap, upto_more, comparing_fails, comparing_holds}
 use Rattle.places.proofs.ColumnLaws.{step_within}
@@ -40,7 +40,6 @@ use Rattle.theory.proofs.SizeLaws.{visited_small}
 use Rattle.superposition_test.proofs.NextLaws.{not_at_zero, next_start}
 use Rattle.superposition_test.proofs.RowLaws.{zip_made, zip_each, zip_long}
 use Rattle.superposition_test.proofs.VisitLaws.{Holds, Held, visits_place, quiet, at_later, at_visited, moved_rows, moved_due, moved_rise}
-use Rattle.superposition_test.proofs.LeastLaws.{least_from}
 
 module _ (s : List Element) (k h : ℕ) where
   abbrev lengths : Lengths
@@ -49,11 +48,12 @@ module _ (s : List Element) (k h : ℕ) where
   abbrev slope_at : ℕ → ℕ
   slope_at I = growth.slope k (H s) s I
 
-  pub record Walking (rows : List Row) (before scaled slope count : ℕ) : Type 0 where
+  pub record Walking (rows : List Row) (before scaled slope count at : ℕ) : Type 0 where
     pub all : AllLegal s
     pub short : length s ≤ places
     pub fit : Walkable s k h
     pub held : Held k s before rows
+    pub least : at ≡ least_next rows
     pub sum : scaled ≡ HD' k s before
     pub slopes : slope ≡ slope_at before
     pub passed : Upto lengths (suc before)
@@ -81,12 +81,13 @@ module _ (s : List Element) (k h : ℕ) where
     held_starts = rw w.hyperperiod (zip_made Legal (Holds k (H s) 0) (row_of k (H s)) s
         (λ e g. record { legal = g; step = refl; cost = refl; last = refl; rise = refl; next = next_start k e g }) (all_legal s all))
 
-    pub start : (rows : List Row) → rows ≡ map (row_of k h) s → Walking rows 0 0 0 0
-    start rows e = record {
+    pub start : (rows : List Row) (at : ℕ) → rows ≡ map (row_of k h) s → at ≡ least_next rows → Walking rows 0 0 0 0 at
+    start rows at e l = record {
       all = all;
       short = short;
       fit = w;
       held = rw e held_starts;
+      least = l;
       sum = sym (scaled_starts k (H s) s w.low (all_legal s all));
       slopes = sym slope_starts;
       passed = upto_gap lengths 0 1 (upto_zero lengths) (λ J m n. let z : J ≡ 0 = omega arith in rw z zero_unvisited);
@@ -100,11 +101,12 @@ module _ (s : List Element) (k h : ℕ) where
   verdict = comparing s NotShown lengths
 
   -- THE MOVE: every place that has the length `at` has moved on; what is due there is added, and the slope grows by `more`
-  pub record Turning (rows : List Row) (before scaled slope count at due more : ℕ) : Type 0 where
+  pub record Turning (rows : List Row) (before scaled slope count at due more next : ℕ) : Type 0 where
     pub all : AllLegal s
     pub short : length s ≤ places
     pub fit : Walkable s k h
     pub held : Held k s at rows
+    pub least : next ≡ least_next rows
     pub later : before < at
     pub numbers : SuperpositionFits k s at
     pub visit : is_visited k s at ≡ true
@@ -125,7 +127,7 @@ module _ (s : List Element) (k h : ℕ) where
       part_of false x = omega arith
 
   module _
-      {rows : List Row} {before scaled slope count : ℕ} (w : Walking rows before scaled slope count) where
+      {rows : List Row} {before scaled slope count at : ℕ} (w : Walking rows before scaled slope count at) where
     slope_most : (I : ℕ) → slope_at I ≤ most_h
     unfolding growth.slope load_in
     slope_most I =
@@ -144,16 +146,16 @@ module _ (s : List Element) (k h : ℕ) where
         ap Passes (w.counts ∙ how_many_all (is_visited k s) (suc before) lengths.end rest (visited_below k s))
         ∙ sym (comparing_holds s NotShown lengths u)
 
-    pub none_left : none ≡ least_from none rows → Passes count ≡ verdict
-    none_left l = done (λ I v. ⊎_elim
+    pub none_left : at ≡ none → Passes count ≡ verdict
+    none_left e = let l : none ≡ least_next rows = sym e ∙ w.least in done (λ I v. ⊎_elim
         (λ a. absurd (clash v (quiet s k before none rows w.held l I a (omega (arith, visited_small s w.all k w.fit.high I v)))))
         (λ a. omega arith)
         (lt_or_le before I))
 
     -- A STEP to the least next length
-    module _ (at : ℕ) (l : at ≡ least_from none rows) (b : at < none) where
+    module _ (b : at < none) where
       visit : is_visited k s at ≡ true
-      visit = at_visited s k before at rows w.held l b
+      visit = at_visited s k before at rows w.held w.least b
 
       numbers : SuperpositionFits k s at
       numbers =
@@ -161,7 +163,7 @@ module _ (s : List Element) (k h : ℕ) where
           (omega (arith, w.fit.hyperperiod, w.fit.load)) k w.fit.low w.fit.high at visit
 
       later : before < at
-      later = at_later s k before at rows w.held l b
+      later = at_later s k before at rows w.held w.least b
 
       pub movable : Movable rows at
       movable = record {
@@ -186,13 +188,13 @@ module _ (s : List Element) (k h : ℕ) where
           × (HD' k s (before + ticks) ≡ HD' k s before + slope_at before * ticks)
       rises_along =
           scaled_rises_along k s w.all w.fit.low before ticks
-          (λ J m n. quiet s k before at rows w.held l J m (omega (arith, later)))
+          (λ J m n. quiet s k before at rows w.held w.least J m (omega (arith, later)))
 
       counts_is : count ≡ how_many (is_visited k s) at
       counts_is =
           let e : suc before + ticks ≡ at = omega (arith, later) in
           let g = how_many_gap (is_visited k s) (suc before) ticks (λ J m n.
-          quiet s k before at rows w.held l J m (omega (arith, later))) in
+          quiet s k before at rows w.held w.least J m (omega (arith, later))) in
           w.counts ∙ sym (rw e at g)
 
       -- the budget has room for this length
@@ -207,7 +209,7 @@ module _ (s : List Element) (k h : ℕ) where
 
       module _ {rows' : List Row} {r : Moved} (v : MovedOn at rows rows' r) where
         due_is : r.cost ≡ growth.visited_due_at k s at
-        due_is = v.due ∙ moved_due s k before at rows w.held l b
+        due_is = v.due ∙ moved_due s k before at rows w.held w.least b
 
         scaled_is : scaled + (slope * (at - before) + r.cost * h) ≡ HD' k s at
         scaled_is =
@@ -218,18 +220,19 @@ module _ (s : List Element) (k h : ℕ) where
         slope_is : slope + r.rise ≡ slope_at at
         slope_is =
             let g = rw at_is at (slope_grows k s w.all w.fit.low (before + ticks)) in
-            omega (arith, g, rises_along.0, w.slopes, v.slope, moved_rise s k before at rows w.held l b)
+            omega (arith, g, rises_along.0, w.slopes, v.slope, moved_rise s k before at rows w.held w.least b)
 
-        pub turn : Turning rows' before scaled slope count at r.cost r.rise
+        pub turn : Turning rows' before scaled slope count at r.cost r.rise r.next
         turn = record {
           all = w.all;
           short = w.short;
           fit = w.fit;
-          held = rw v.rows (moved_rows s k before at rows w.held l b);
+          least = v.next;
+          held = rw v.rows (moved_rows s k before at rows w.held w.least b);
           later = later;
           numbers = numbers;
           visit = visit;
-          passed = upto_gap lengths (suc before) at w.passed (λ J m n. quiet s k before at rows w.held l J m n);
+          passed = upto_gap lengths (suc before) at w.passed (λ J m n. quiet s k before at rows w.held w.least J m n);
           sum = scaled_is;
           slopes = slope_is;
           counts = counts_is;
@@ -240,7 +243,7 @@ module _ (s : List Element) (k h : ℕ) where
 
   -- WHAT IS FOUND THERE
   module _
-      {rows : List Row} {before scaled slope count at due more : ℕ} (w : Turning rows before scaled slope count at due more) where
+      {rows : List Row} {before scaled slope count at due more next : ℕ} (w : Turning rows before scaled slope count at due more next) where
     top_is : H s * at ≡ h * at
     top_is = ap (λ z. z * at) (sym w.fit.hyperperiod)
 
@@ -269,13 +272,14 @@ module _ (s : List Element) (k h : ℕ) where
 
     pub again :
         scaled + (slope * (at - before) + due * h) ≤ h * at →
-        Walking rows at (scaled + (slope * (at - before) + due * h)) (slope + more) (count + 1)
+        Walking rows at (scaled + (slope * (at - before) + due * h)) (slope + more) (count + 1) next
     unfolding is_above
     again u = record {
       all = w.all;
       short = w.short;
       fit = w.fit;
       held = w.held;
+      least = w.least;
       sum = w.sum;
       slopes = w.slopes;
       passed = upto_more lengths at w.passed (le-ltb (H s * at) (HD' k s at) (omega (arith, w.sum, top_is)));

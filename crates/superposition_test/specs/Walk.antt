@@ -1,5 +1,5 @@
 -- What the parts of the superposition walk promise one another.
-use Rattle.std.specs.Prelude.{ℕ, ◌+◌, ◌≤◌, ◌≡◌, Bool, cond, List, map, sum_by, ltb, eqb, length, Result, Ok, Err}
+use Rattle.std.specs.Prelude.{ℕ, ◌+◌, ◌≤◌, ◌≡◌, min, Bool, cond, List, map, fold, sum_by, ltb, eqb, length, Result, Ok, Err}
 use Rattle.model.specs.declared.elements.Element.{Element}
 use Rattle.model.specs.declared.answers.Verdict.{Verdict}
 use Rattle.model.specs.declared.answers.Verdict.TheVariants.{Passes, NotShown}
@@ -48,6 +48,10 @@ pub record Movable (rows : List Row) (at : ℕ) : Type 0 where
   pub small : Each rows Small
   pub low : at ≤ most_length
 
+-- the least of their next lengths, none left where there is none
+abbrev pub least_next : List Row → ℕ
+least_next rows = fold (λ best r. min best r.place.next) none rows
+
 -- whether a row has this length for its next
 abbrev pub has : ℕ → Row → Bool
 has at r = eqb r.place.next at
@@ -74,6 +78,7 @@ pub record MovedOn (at : ℕ) (before after : List Row) (moved : Moved) : Type 0
   pub rows : after ≡ map (moved_on at) before
   pub due : moved.cost ≡ sum_by (due_in at) before
   pub slope : moved.rise ≡ sum_by (rise_in at) before
+  pub next : moved.next ≡ least_next after
 
 -- the verdict of what the walk answers
 abbrev pub told : List Element → Result ℕ HeldBack → Verdict

@@ -1,11 +1,11 @@
 // The superposition walk: one row for each element, and the least of their next lengths compared at each step.
-ghost use Rattle.std.specs.Prelude.{◌≡◌, true, ◌≤◌, fold, min, IfErr};
+ghost use Rattle.std.specs.Prelude.{◌≡◌, true, ◌≤◌, IfErr};
 ghost use Rattle.model.specs.declared.answers.Verdict.TheVariants.{NotShown};
 ghost use Rattle.model.specs.Elements.{most_h, most_k, is_legal};
 ghost use Rattle.model.specs.ExactTest.{comparing};
 ghost use Rattle.model.specs.Superposition.{superposition_lengths};
 ghost use Rattle.theory.specs.Sizes.{most_length};
-ghost use Rattle.superposition_test.specs.Walk.{none, row_of, Movable, MovedOn, Walkable, told};
+ghost use Rattle.superposition_test.specs.Walk.{row_of, least_next, Movable, MovedOn, Walkable, told};
 
 use model::elements::PLACES;
 use model::{Element, LegalSet, Period};
@@ -29,11 +29,12 @@ const UNUSED: Row = Row {
     rise: 0,
 };
 
-// The cost due at one length, and what the slope rises by there.
+// The cost due at one length, what the slope rises by there, and the least next length after it.
 #[derive(Clone, Copy)]
 pub(crate) struct Moved {
     pub(crate) cost: u64,
     pub(crate) rise: u64,
+    pub(crate) next: u64,
 }
 
 // The first length where the set is not shown to be feasible, and how many were compared.
@@ -63,7 +64,7 @@ fn row_of(e: Element, k: u64, h: u64) -> Row
 
 // The least of the next lengths, none left where there is none.
 fn least(rows: &[Row]) -> u64
-    ensures { result ≡ fold (λ best r. min best r.place.next) none rows.now }
+    ensures { result ≡ least_next rows.now }
 {
     rows.iter()
         .fold(NONE_LEFT, |best, row| best.min(row.place.next))
@@ -76,6 +77,7 @@ fn move_on(rows: &mut [Row], at: u64) -> Moved
 {
     let mut cost: u64 = 0;
     let mut rise: u64 = 0;
+    let mut next = NONE_LEFT;
     for row in rows.iter_mut() {
         if row.place.next == at {
             cost = cost + row.place.cost;
@@ -86,8 +88,9 @@ fn move_on(rows: &mut [Row], at: u64) -> Moved
                 rise = rise + row.rise;
             }
         }
+        next = next.min(row.place.next);
     }
-    Moved { cost, rise }
+    Moved { cost, rise, next }
 }
 
 // The walk with load at most one: at each step the least next length is compared, until none is left.
@@ -105,14 +108,10 @@ pub(crate) fn walk(set: LegalSet, k: u64, h: u64) -> Result<u64, HeldBack>
     let mut scaled: u64 = 0;
     let mut slope: u64 = 0;
     let mut count: u64 = 0;
-    loop {
-        let at = least(rows);
-        if at == NONE_LEFT {
-            return Ok(count);
-        }
+    let mut at = least(rows);
+    while at != NONE_LEFT {
         let moved = move_on(rows, at);
-        let due = moved.cost;
-        scaled = scaled + (slope * (at - before) + due * h);
+        scaled = scaled + (slope * (at - before) + moved.cost * h);
         count = count + 1;
         if h * at < scaled {
             return Err(HeldBack {
@@ -122,5 +121,7 @@ pub(crate) fn walk(set: LegalSet, k: u64, h: u64) -> Result<u64, HeldBack>
         }
         slope = slope + moved.rise;
         before = at;
+        at = moved.next;
     }
+    Ok(count)
 }

@@ -1,5 +1,6 @@
-use Rattle.std.proofs.Common.{arith}
-use Rattle.superposition_test.proofs.MoveLaws.{small, stays, goes_on, goes_out}
+use Rattle.std.proofs.Common.{arith, get_or}
+use Rattle.superposition_test.specs.Walk.{unused}
+use Rattle.superposition_test.proofs.MoveLaws.{Changed, stays, goes_on, goes_out, small, turn}
 use Rattle.superposition_test.proofs.walk.move_on.Goals as goal
 use Rattle.superposition_test.proofs.walk.move_on.Goals.{then-row-at+then-at-row, then-row-at+else-at-row, else-row-at}
 
@@ -21,9 +22,9 @@ overflow_add-rise c =
 pub loop-row-preserved : goal.loop-row-preserved
 loop-row-preserved c =
     let k = c.loop-row.invariant in
-    let h = c.loop-row-test.true in
-    elim c.if-row-at.branch [
-      | then-row-at+then-at-row w ↦ rw (w.rows-is, w.cost-is, w.rise-is) (goes_on k h w.if-row-at.true (omega (arith, w.if-at-row.true)))
-      | then-row-at+else-at-row w ↦ rw (w.rows-is, w.cost-is, w.rise-is) (goes_out k h w.if-row-at.true (omega (arith, w.if-at-row.false)))
-      | else-row-at w ↦ rw (w.rows-is, w.cost-is, w.rise-is) (stays k h w.if-row-at.false)
-    ]
+    let changed : Changed c.args.at (get_or c.loop-row.rows c.loop-row.row-index unused) c.if-row-at.row c.loop-row.cost c.if-row-at.cost c.loop-row.rise c.if-row-at.rise = elim c.if-row-at.branch [
+      | then-row-at+then-at-row w ↦ rw (w.row-is, w.cost-is, w.rise-is) (goes_on _ _ _ _ w.if-row-at.true (omega (arith, w.if-at-row.true)))
+      | then-row-at+else-at-row w ↦ rw (w.row-is, w.cost-is, w.rise-is) (goes_out _ _ _ _ w.if-row-at.true (omega (arith, w.if-at-row.false)))
+      | else-row-at w ↦ rw (w.row-is, w.cost-is, w.rise-is) (stays _ _ _ _ w.if-row-at.false)
+    ] in
+    rw c.min-next.ensures (turn k c.loop-row-test.true changed)

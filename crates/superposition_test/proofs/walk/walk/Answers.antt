@@ -25,24 +25,23 @@ loop-i-preserved c =
           );
     }
 
-pub loop-rows-init : goal.loop-rows-init
-loop-rows-init c =
+pub loop-at-init : goal.loop-at-init
+loop-at-init c =
     let s = c.args.set.elements.now in
     let all : c.loop-i.i ≡ length s = omega (arith, c.loop-i.auto.i-end, c.loop-i-test.false) in
-    start s _ _ c.args.set.legal c.args.set.few c.requires _ (rw all at c.loop-i.invariant.laid ∙ rw (take_all (length s) s (omega arith)))
+    start s _ _ c.args.set.legal c.args.set.few c.requires _ _ (rw all at c.loop-i.invariant.laid ∙ rw (take_all (length s) s (omega arith))) c.least-at.ensures
 
-pub returns-then-at-clause-verdict : goal.returns-then-at-clause-verdict
-returns-then-at-clause-verdict c = none_left _ _ _ c.loop-rows.invariant (rw c.if-at.true at c.least-at.ensures)
+pub returns-clause-verdict : goal.returns-clause-verdict
+returns-clause-verdict c = none_left _ _ _ c.loop-at.invariant c.loop-at-test.false
 
 pub move_on-moved-requires : goal.move_on-moved-requires
-move_on-moved-requires c = movable _ _ _ c.loop-rows.invariant _ c.least-at.ensures (omega (arith, c.if-at.false))
+move_on-moved-requires c = movable _ _ _ c.loop-at.invariant (omega (arith, c.loop-at-test.true, c.loop-at.auto.at-fits))
 
 -- every row that has the length has moved on
-turned : (c : After-move_on-moved) →
+turned : (c : After-move_on-moved) → let moved = c.move_on-moved.result in
     Turning c.args.set.elements.now c.args.k c.args.h c.move_on-moved.new.rows
-    c.loop-rows.before c.loop-rows.scaled c.loop-rows.slope c.loop-rows.count
-    c.least-at.result c.move_on-moved.result.cost c.move_on-moved.result.rise
-turned c = turn _ _ _ c.loop-rows.invariant _ c.least-at.ensures (omega (arith, c.if-at.false)) c.move_on-moved.ensures
+    c.loop-at.before c.loop-at.scaled c.loop-at.slope c.loop-at.count c.loop-at.at moved.cost moved.rise moved.next
+turned c = turn _ _ _ c.loop-at.invariant (omega (arith, c.loop-at-test.true, c.loop-at.auto.at-fits)) c.move_on-moved.ensures
 
 pub overflow_sub-scaled : goal.overflow_sub-scaled
 overflow_sub-scaled c = omega (arith, (turned (goal.at.overflow_sub-scaled c).After-move_on-moved).later)
@@ -50,14 +49,14 @@ overflow_sub-scaled c = omega (arith, (turned (goal.at.overflow_sub-scaled c).Af
 pub overflow_mul-scaled : goal.overflow_mul-scaled
 overflow_mul-scaled c = omega (arith, sum_fits _ _ _ (turned (goal.at.overflow_mul-scaled c).After-move_on-moved))
 
-pub overflow_mul-scaled-in-loop-rows : goal.overflow_mul-scaled-in-loop-rows
-overflow_mul-scaled-in-loop-rows c = omega (arith, sum_fits _ _ _ (turned (goal.at.overflow_mul-scaled-in-loop-rows c).After-move_on-moved))
+pub overflow_mul-scaled-in-loop-at : goal.overflow_mul-scaled-in-loop-at
+overflow_mul-scaled-in-loop-at c = omega (arith, sum_fits _ _ _ (turned (goal.at.overflow_mul-scaled-in-loop-at c).After-move_on-moved))
 
 pub overflow_add-scaled : goal.overflow_add-scaled
 overflow_add-scaled c = omega (arith, sum_fits _ _ _ (turned (goal.at.overflow_add-scaled c).After-move_on-moved))
 
-pub overflow_add-scaled-in-loop-rows : goal.overflow_add-scaled-in-loop-rows
-overflow_add-scaled-in-loop-rows c = omega (arith, sum_fits _ _ _ (turned (goal.at.overflow_add-scaled-in-loop-rows c).After-move_on-moved))
+pub overflow_add-scaled-in-loop-at : goal.overflow_add-scaled-in-loop-at
+overflow_add-scaled-in-loop-at c = omega (arith, sum_fits _ _ _ (turned (goal.at.overflow_add-scaled-in-loop-at c).After-move_on-moved))
 
 pub overflow_add-count : goal.overflow_add-count
 overflow_add-count c =
@@ -76,8 +75,8 @@ returns-then-h-at-clause-verdict c = failing _ _ _ (turned (goal.at.returns-then
 pub overflow_add-slope : goal.overflow_add-slope
 overflow_add-slope c = omega (arith, (turned (goal.at.overflow_add-slope c).After-move_on-moved).slope_small)
 
-pub loop-rows-smaller : goal.loop-rows-smaller
-loop-rows-smaller c = omega (arith, (turned (goal.at.loop-rows-smaller c).After-move_on-moved).within)
+pub loop-at-smaller : goal.loop-at-smaller
+loop-at-smaller c = omega (arith, (turned (goal.at.loop-at-smaller c).After-move_on-moved).within)
 
-pub loop-rows-preserved : goal.loop-rows-preserved
-loop-rows-preserved c = again _ _ _ (turned (goal.at.loop-rows-preserved c).After-move_on-moved) c.if-h-at.false
+pub loop-at-preserved : goal.loop-at-preserved
+loop-at-preserved c = again _ _ _ (turned (goal.at.loop-at-preserved c).After-move_on-moved) c.if-h-at.false

@@ -11,8 +11,8 @@ invariant-loop-i l = record {
   laid : take l.i l.table ≡ map (row_of l.k l.h) (take l.i l.e-items);
 }
 
-abbrev pub invariant-loop-rows : goal.invariant-loop-rows
-invariant-loop-rows l = Walking l.fn.set.elements.now l.k l.h l.rows l.before l.scaled l.slope l.count
+abbrev pub invariant-loop-at : goal.invariant-loop-at
+invariant-loop-at l = Walking l.fn.set.elements.now l.k l.h l.rows l.before l.scaled l.slope l.count l.at
 
-abbrev pub decreases-loop-rows : goal.decreases-loop-rows
-decreases-loop-rows l = budget l.k l.fn.set.elements.now - l.count
+abbrev pub decreases-loop-at : goal.decreases-loop-at
+decreases-loop-at l = budget l.k l.fn.set.elements.now - l.count
