@@ -14,6 +14,7 @@ use Rattle.std.specs.List.{sum_by}
 use Rattle.std.proofs.lemmas.List.Sums.{sum_by_more, fold_push}
 use Rattle.model.specs.Elements.{most_cost, places}
 use Rattle.model.proofs.OverLaws.{each_at}
+use Rattle.places.proofs.ColumnLaws.{laid_more}
 use Rattle.superposition_test.specs.declared.walk.Row.{Row}
 use Rattle.superposition_test.specs.Walk.{none, unused, most_rise, Small, Movable, least_next, has, moved_on, due_in, rise_in}
 
@@ -64,8 +65,8 @@ rise_part r at n h = part_of (has at r) (cond (ltb at r.last) 0 r.rise) n (go (l
     go false = h
 
 module _ {before : List Row} {at : ℕ} {rows : List Row} {i cost rise next : ℕ} (w : Moving before at rows i cost rise next) (l : i < length before) where
-  size : length (map (moved_on at) (take i before)) ≡ i
-  size = length-map (take i before) (moved_on at) ∙ length-take-le i before (omega arith)
+  abbrev front : List Row
+  front = map (moved_on at) (take i before)
 
   -- the row at hand
   abbrev row : Row
@@ -73,7 +74,7 @@ module _ {before : List Row} {at : ℕ} {rows : List Row} {i cost rise next : �
 
   here : row ≡ get_or before i unused
   here =
-      let front = map (moved_on at) (take i before) in
+      let size : length front ≡ i = length-map (take i before) (moved_on at) ∙ length-take-le i before (omega arith) in
       rw (w.moved, drop-cons before i unused l) (
         ap (λ n. get_or (front ++ get_or before i unused ∷ drop (suc i) before) n unused) (sym size)
         ∙ get_or-append_seam front (get_or before i unused) (drop (suc i) before) unused
@@ -85,16 +86,10 @@ module _ {before : List Row} {at : ℕ} {rows : List Row} {i cost rise next : �
   -- one row more
   pub turn : {r : Row} {cost' rise' : ℕ} → Changed at row r cost cost' rise rise' → Moving before at (set rows i r) (i + 1) cost' rise' (min next r.place.next)
   turn {r} {cost'} {rise'} c =
-      let front = map (moved_on at) (take i before) in
       let due_part = part_of (has at row) row.place.cost most_cost small.cost in
       record {
         fit = w.fit;
-        moved =
-            rw (c.row, here, w.moved, map_more (moved_on at) before i unused l, drop-cons before i unused l, add-one) (
-              ap (λ n. set (front ++ get_or before i unused ∷ drop (suc i) before) n (moved_on at (get_or before i unused))) (sym size)
-              ∙ set-append_seam front _ _ _
-              ∙ sym (append_assoc front _ _)
-            );
+        moved = rw (c.row, here, w.moved) (laid_more (moved_on at) before before i unused l l);
         due = c.due ∙ rw here (omega (arith, sum_by_more (due_in at) before i unused l, w.due));
         slope = c.slope ∙ rw here (omega (arith, sum_by_more (rise_in at) before i unused l, w.slope));
         least =

@@ -40,12 +40,6 @@ module _ {A B : Type 0} where
   zip_each R Q (x ∷ s) [] h z = elim z [ ]
   zip_each R Q (x ∷ s) (y ∷ rows) h z = (h x y z.0, zip_each R Q s rows h z.1)
 
-  pub zip_long : (R : A → B → Type 0) (s : List A) (rows : List B) → AllZip R s rows → length rows ≡ length s
-  zip_long R [] [] z = refl
-  zip_long R [] (y ∷ rows) z = elim z [ ]
-  zip_long R (x ∷ s) [] z = elim z [ ]
-  zip_long R (x ∷ s) (y ∷ rows) z = omega (arith, zip_long R s rows z.1)
-
   -- at one place
   pub zip_at : (R : A → B → Type 0) (s : List A) (rows : List B) (i : ℕ) (d : A) (e : B) → AllZip R s rows → i < length s → R (get_or s i d) (get_or rows i e)
   zip_at R [] [] i d e z l = absurd (omega arith)

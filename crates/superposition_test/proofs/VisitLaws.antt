@@ -8,6 +8,7 @@ use native.Mathlib.Omega.{arith}
 use borrow.Author.Tests.{eq-eqb, ne_eqb}
 use lib.ListN.{length, get_or}
 use Rattle.std.specs.List.{AllZip, sum_by}
+use Rattle.std.proofs.lemmas.Slice.Zip.{AllZip-long}
 use Rattle.model.specs.declared.elements.Element.{Element}
 use Rattle.model.specs.Over.{sum_over, Each}
 use Rattle.model.specs.Elements.{filler}
@@ -22,7 +23,7 @@ use Rattle.superposition_test.specs.declared.walk.Row.{Row}
 use Rattle.superposition_test.specs.Walk.{none, unused, moved_on, due_in, rise_in}
 use Rattle.superposition_test.proofs.LeastLaws.{least_from, Attained, least_below, least_attained}
 use Rattle.superposition_test.proofs.NextLaws.{NextOf, next_miss, next_hit, next_visits, next_rises}
-use Rattle.superposition_test.proofs.RowLaws.{zip_at, zip_long, zip_map, zip_sum}
+use Rattle.superposition_test.proofs.RowLaws.{zip_at, zip_map, zip_sum}
 
 -- what a row holds of its element, past x
 pub record Holds (k h x : ℕ) (e : Element) (r : Row) : Type 0 where
@@ -50,7 +51,7 @@ module _ (s : List Element) (k : ℕ) where
         (λ v.
         let w = visits_place I v in
         let n = zip_at (Holds k (H s) x) s rows w.0 filler unused held w.1 in
-        let u = each_at (λ r. at ≤ r.place.next) rows w.0 unused (omega (arith, w.1, zip_long (Holds k (H s) x) s rows held)) below in
+        let u = each_at (λ r. at ≤ r.place.next) rows w.0 unused (omega (arith, w.1, AllZip-long (Holds k (H s) x) s rows held)) below in
         absurd (clash w.2 (n.next.gap I a (omega (arith, u)))))
         (λ v. v)
         (test (is_visited k s I))
@@ -60,7 +61,7 @@ module _ (s : List Element) (k : ℕ) where
       one : (i : ℕ) × (i < length s) × NextOf k (get_or s i filler) x at
       one =
           let a : Attained rows (least_from none rows) = least_attained none rows (rw l at b) in
-          let i : a.0 < length s = omega (arith, a.1, zip_long (Holds k (H s) x) s rows held) in
+          let i : a.0 < length s = omega (arith, a.1, AllZip-long (Holds k (H s) x) s rows held) in
           (a.0, i, rw (a.2 unused, ← l) at (zip_at (Holds k (H s) x) s rows a.0 filler unused held i).next)
 
       pub at_later : x < at

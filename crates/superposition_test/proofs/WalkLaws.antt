@@ -9,6 +9,7 @@ use native.Mathlib.Nat.{mul-le-mul_left}
 use borrow.Author.Tests.{lt-ltb, le-ltb}
 use lib.Dec.{ltb}
 use lib.ListN.{length, get_or}
+use Rattle.std.proofs.lemmas.Slice.Zip.{AllZip-long}
 use Rattle.model.specs.declared.elements.Element.{Element}
 use Rattle.model.specs.declared.answers.Verdict.{Verdict}
 use Rattle.model.specs.declared.answers.Verdict.TheVariants.{Passes, NotShown}
@@ -38,7 +39,7 @@ use Rattle.places.proofs.ColumnLaws.{step_within}
 use Rattle.theory.proofs.LoadLaws.{rise_most}
 use Rattle.theory.proofs.SizeLaws.{visited_small}
 use Rattle.superposition_test.proofs.NextLaws.{not_at_zero, next_start}
-use Rattle.superposition_test.proofs.RowLaws.{zip_made, zip_each, zip_long}
+use Rattle.superposition_test.proofs.RowLaws.{zip_made, zip_each}
 use Rattle.superposition_test.proofs.VisitLaws.{Holds, Held, visits_place, quiet, at_later, at_visited, moved_rows, moved_due, moved_rise}
 
 module _ (s : List Element) (k h : ℕ) where
@@ -167,7 +168,7 @@ module _ (s : List Element) (k h : ℕ) where
 
       pub movable : Movable rows at
       movable = record {
-        few = omega (arith, w.short, zip_long (Holds k (H s) before) s rows w.held);
+        few = omega (arith, w.short, AllZip-long (Holds k (H s) before) s rows w.held);
         small = zip_each (Holds k (H s) before) Small s rows (λ e r g. record {
           step = rw g.step (step_within e.period g.legal.period).1;
           cost = rw g.cost g.legal.cost.1;

@@ -20,11 +20,7 @@ pub fn superposition(set: TaskSet, k: u32) -> Answer
     match load_of(set) {
         Loaded::Refused(r) => Answer::Refused(r),
         Loaded::AboveOne(verdict) => Answer::Given(verdict),
-        Loaded::AtMostOne {
-            first: _,
-            hyperperiod,
-            load: _,
-        } => {
+        Loaded::AtMostOne { hyperperiod, .. } => {
             let legal = LegalSet {
                 elements: set.counted(),
             };
