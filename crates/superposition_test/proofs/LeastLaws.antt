@@ -1,6 +1,6 @@
 -- What the least of the next lengths is. Assumes nothing.
 use Prim.Native.Nat.{ℕ, zero, suc, ◌≤◌, ◌<◌, min}
-use mathlib.Core.Path.{◌≡◌, refl, sym}
+use mathlib.Core.Path.{◌≡◌}
 use mathlib.Core.List.{List, [], ◌∷◌}
 use mathlib.Core.Logic.{⊎_elim}
 use native.Mathlib.Omega.{arith}
@@ -9,7 +9,6 @@ use Rattle.std.specs.List.{fold}
 use Rattle.model.specs.Over.{Each}
 use Rattle.model.proofs.Cases.{lt_or_le}
 use Rattle.superposition_test.specs.declared.walk.Row.{Row}
-use Rattle.superposition_test.specs.Walk.{none}
 
 abbrev pub least_from : ℕ → List Row → ℕ
 least_from b rows = fold (λ best r. min best r.place.next) b rows

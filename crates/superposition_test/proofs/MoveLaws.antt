@@ -7,12 +7,11 @@ use native.Mathlib.Omega.{arith}
 use borrow.Author.Tests.{lt-ltb, le-ltb, eq-eqb, ne_eqb}
 use lib.Dec.{ltb}
 use lib.ListN.{length, length-map, get_or, set, take, drop}
-use lib.Seq.{length-take-le, drop-cons, get_or-append_seam, set-append_seam}
-use Rattle.std.proofs.Common.{append_assoc, add-one}
+use lib.Seq.{length-take-le, drop-cons, get_or-append_seam}
 use Rattle.std.proofs.lemmas.List.{map_more}
 use Rattle.std.specs.List.{sum_by}
 use Rattle.std.proofs.lemmas.List.Sums.{sum_by_more, fold_push}
-use Rattle.model.specs.Elements.{most_cost, places}
+use Rattle.model.specs.Elements.{most_cost}
 use Rattle.model.proofs.OverLaws.{each_at}
 use Rattle.places.proofs.ColumnLaws.{laid_more}
 use Rattle.superposition_test.specs.declared.walk.Row.{Row}
@@ -26,7 +25,6 @@ pub record Moving (before : List Row) (at : ℕ) (rows : List Row) (i cost rise 
   pub least : next ≡ least_next (map (moved_on at) (take i before))
   pub due_small : cost ≤ i * most_cost
   pub slope_small : rise ≤ i * most_rise
-
 
 -- WHAT A ROW ADDS
 pub record Changed (at : ℕ) (r r' : Row) (cost cost' rise rise' : ℕ) : Type 0 where
@@ -76,8 +74,8 @@ module _ {before : List Row} {at : ℕ} {rows : List Row} {i cost rise next : �
   here =
       let size : length front ≡ i = length-map (take i before) (moved_on at) ∙ length-take-le i before (omega arith) in
       rw (w.moved, drop-cons before i unused l) (
-        ap (λ n. get_or (front ++ get_or before i unused ∷ drop (suc i) before) n unused) (sym size)
-        ∙ get_or-append_seam front (get_or before i unused) (drop (suc i) before) unused
+      ap (λ n. get_or (front ++ get_or before i unused ∷ drop (suc i) before) n unused) (sym size)
+      ∙ get_or-append_seam front (get_or before i unused) (drop (suc i) before) unused
       )
 
   pub small : Small row
