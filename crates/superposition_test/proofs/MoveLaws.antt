@@ -51,16 +51,11 @@ module _ (at cost rise : ℕ) (r : Row) where
     pub goes_out : r.last ≤ at → Changed at r (record r { place = record r.place { next = none } }) cost (cost + r.place.cost) rise (rise + r.rise)
     goes_out b = let m = le-ltb at r.last b in record { row = rw (has_it, m) refl; due = rw has_it refl; slope = rw (has_it, m) refl }
 
-part_of : (b : Bool) (x n : ℕ) → x ≤ n → cond b x 0 ≤ n
-part_of true x n h = h
-part_of false x n h = omega arith
+due_part : (r : Row) (at : ℕ) → due_in at r ≤ r.place.cost
+due_part r at = grind arith
 
-rise_part : (r : Row) (at n : ℕ) → r.rise ≤ n → rise_in at r ≤ n
-rise_part r at n h = part_of (has at r) (cond (ltb at r.last) 0 r.rise) n (go (ltb at r.last))
-  where
-    go : (b : Bool) → cond b 0 r.rise ≤ n
-    go true = omega arith
-    go false = h
+rise_part : (r : Row) (at : ℕ) → rise_in at r ≤ r.rise
+rise_part r at = grind arith
 
 module _ {before : List Row} {at : ℕ} {rows : List Row} {i cost rise next : ℕ} (w : Moving before at rows i cost rise next) (l : i < length before) where
   abbrev front : List Row
@@ -84,7 +79,6 @@ module _ {before : List Row} {at : ℕ} {rows : List Row} {i cost rise next : �
   -- one row more
   pub turn : {r : Row} {cost' rise' : ℕ} → Changed at row r cost cost' rise rise' → Moving before at (set rows i r) (i + 1) cost' rise' (min next r.place.next)
   turn {r} {cost'} {rise'} c =
-      let due_part = part_of (has at row) row.place.cost most_cost small.cost in
       record {
         fit = w.fit;
         moved = rw (c.row, here, w.moved) (laid_more (moved_on at) before before i unused l l);
@@ -93,6 +87,6 @@ module _ {before : List Row} {at : ℕ} {rows : List Row} {i cost rise next : �
         least =
             rw (c.row, here, w.least, map_more (moved_on at) before i unused l)
             (sym (fold_push (λ best r. min best r.place.next) none front (moved_on at (get_or before i unused))));
-        due_small = omega (arith, w.due_small, c.due, due_part);
-        slope_small = omega (arith, w.slope_small, c.slope, rise_part row at most_rise small.rise);
+        due_small = omega (arith, w.due_small, c.due, due_part row at, small.cost);
+        slope_small = omega (arith, w.slope_small, c.slope, rise_part row at, small.rise);
       }

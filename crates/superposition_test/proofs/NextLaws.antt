@@ -21,8 +21,7 @@ use Rattle.places.specs.Columns.{step_of}
 use Rattle.superposition_test.specs.Walk.{none, on_from, rise_from}
 
 no_rise : (b : Bool) → ◌≡◌ {A = ℕ} (cond b 0 0) 0
-no_rise true = refl
-no_rise false = refl
+no_rise b = grind arith
 
 module _ (k : ℕ) (e : Element) where
   visited_low : (I : ℕ) → is_visited_by k I e ≡ true → I ≤ m k e

@@ -121,11 +121,7 @@ module _ (s : List Element) (k h : ℕ) where
 
   slope_part :
       (I : ℕ) (e : Element) → Legal e → cond (ltb I (m k e)) 0 (growth.rise_of (H s) e) ≤ growth.rise_of (H s) e
-  slope_part I e g = part_of (ltb I (m k e)) (growth.rise_of (H s) e)
-    where
-      part_of : (b : Bool) (x : ℕ) → cond b 0 x ≤ x
-      part_of true x = omega arith
-      part_of false x = omega arith
+  slope_part I e g = grind arith
 
   module _
       {rows : List Row} {before scaled slope count at : ℕ} (w : Walking rows before scaled slope count at) where
