@@ -35,21 +35,17 @@ pub record Changed (at : ℕ) (r r' : Row) (cost cost' rise rise' : ℕ) : Type 
 module _ (at cost rise : ℕ) (r : Row) where
   -- one that has another length
   pub stays : (r.place.next ≡ at → ⊥) → Changed at r r cost cost rise rise
-  stays o =
-      let m = ne_eqb r.place.next at o in
-      record { row = rw m refl; due = rw m (omega arith); slope = rw m (omega arith) }
+  stays o = record { row = grind arith; due = grind arith; slope = grind arith }
 
-  module _ (o : r.place.next ≡ at) where
-    has_it : has at r ≡ true
-    has_it = eq-eqb r.place.next at o
+  -- one with a length further on
+  pub goes_on :
+      r.place.next ≡ at → at < r.last → Changed at r (record r { place = record r.place { next = at + r.place.step } }) cost (cost + r.place.cost) rise rise
+  goes_on o b = record { row = grind arith; due = grind arith; slope = grind arith }
 
-    -- one with a length further on
-    pub goes_on : at < r.last → Changed at r (record r { place = record r.place { next = at + r.place.step } }) cost (cost + r.place.cost) rise rise
-    goes_on b = let m = lt-ltb at r.last b in record { row = rw (has_it, m) refl; due = rw has_it refl; slope = rw (has_it, m) (omega arith) }
-
-    -- one with none left
-    pub goes_out : r.last ≤ at → Changed at r (record r { place = record r.place { next = none } }) cost (cost + r.place.cost) rise (rise + r.rise)
-    goes_out b = let m = le-ltb at r.last b in record { row = rw (has_it, m) refl; due = rw has_it refl; slope = rw (has_it, m) refl }
+  -- one with none left
+  pub goes_out :
+      r.place.next ≡ at → r.last ≤ at → Changed at r (record r { place = record r.place { next = none } }) cost (cost + r.place.cost) rise (rise + r.rise)
+  goes_out o b = record { row = grind arith; due = grind arith; slope = grind arith }
 
 due_part : (r : Row) (at : ℕ) → due_in at r ≤ r.place.cost
 due_part r at = grind arith

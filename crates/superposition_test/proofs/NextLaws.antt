@@ -100,13 +100,7 @@ module _ (k : ℕ) (e : Element) where
   -- WHAT IT HAS AT A LENGTH up to its next
   module _ (x n : ℕ) (w : NextOf x n) (y : ℕ) (l : x < y) (u : y ≤ n) (b : y < none) where
     pub next_visits : eqb n y ≡ is_visited_by k y e
-    next_visits = ⊎_elim
-        (λ (h : y < n). ne_eqb n y (λ eq. omega arith) ∙ sym (w.gap y l h))
-        (λ (h : n ≤ y). let eq : n ≡ y = omega arith in eq-eqb n y eq ∙ sym (rw eq at (w.here (omega arith))))
-        (lt_or_le y n)
+    next_visits = grind (arith, w.gap y l, w.here)
 
     pub next_rises : (r : ℕ) → cond (eqb n y) (rise_from y (m k e) r) 0 ≡ cond (is_last_by k y e) r 0
-    next_rises r = rw next_visits (⊎_elim
-        (λ (h : y < m k e). rw (lt-ltb y (m k e) h, lt-leb (m k e) y h, and-false (is_visited_by k y e)) (no_rise (is_visited_by k y e)))
-        (λ (h : m k e ≤ y). rw (le-ltb y (m k e) h, le-leb (m k e) y h, and-true (is_visited_by k y e)))
-        (lt_or_le y (m k e)))
+    next_rises r = grind (arith, next_visits)
