@@ -1,11 +1,8 @@
 -- What holds whenever `move_on` turns to the row i. Assumes nothing.
 use Prim.Native.Nat.{ℕ, suc, ◌+◌, ◌*◌, ◌≤◌, ◌<◌, min}
-use mathlib.Core.Path.{◌≡◌, refl, sym, ap, ◌∙◌}
-use mathlib.Core.Bool.{Bool, true, false, cond}
+use mathlib.Core.Path.{◌≡◌, sym, ap, ◌∙◌}
 use mathlib.Core.List.{List, ◌∷◌, ◌++◌, map}
 use native.Mathlib.Omega.{arith}
-use borrow.Author.Tests.{lt-ltb, le-ltb, eq-eqb, ne_eqb}
-use lib.Dec.{ltb}
 use lib.ListN.{length, length-map, get_or, set, take, drop}
 use lib.Seq.{length-take-le, drop-cons, get_or-append_seam}
 use Rattle.std.proofs.lemmas.List.{map_more}
@@ -15,7 +12,7 @@ use Rattle.model.specs.Elements.{most_cost}
 use Rattle.model.proofs.OverLaws.{each_at}
 use Rattle.places.proofs.ColumnLaws.{laid_more}
 use Rattle.superposition_test.specs.declared.walk.Row.{Row}
-use Rattle.superposition_test.specs.Walk.{none, unused, most_rise, Small, Movable, least_next, has, moved_on, due_in, rise_in}
+use Rattle.superposition_test.specs.Walk.{none, unused, most_rise, Small, Movable, least_next, moved_on, due_in, rise_in}
 
 pub record Moving (before : List Row) (at : ℕ) (rows : List Row) (i cost rise next : ℕ) : Type 0 where
   pub fit : Movable before at

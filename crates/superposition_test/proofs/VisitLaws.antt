@@ -8,13 +8,14 @@ use native.Mathlib.Omega.{arith}
 use borrow.Author.Tests.{eq-eqb, ne_eqb}
 use lib.ListN.{length, get_or}
 use Rattle.std.specs.List.{AllZip, sum_by}
+use Rattle.std.proofs.lemmas.Bool.{false_from_ne_true}
 use Rattle.std.proofs.lemmas.Slice.Zip.{AllZip-long}
 use Rattle.model.specs.declared.elements.Element.{Element}
 use Rattle.model.specs.Over.{sum_over, Each}
 use Rattle.model.specs.Elements.{filler}
 use Rattle.model.specs.Demand.{H}
 use Rattle.model.specs.Superposition.{m, is_visited}
-use Rattle.model.proofs.Cases.{test, clash, lt_or_le}
+use Rattle.model.proofs.Cases.{clash, lt_or_le}
 use Rattle.model.proofs.OverLaws.{some_at, at_some, each_at}
 use Rattle.model.proofs.ElementLaws.{Legal}
 use Rattle.theory.specs.Growth.{cost_of, is_visited_by, visited_due_at, is_last_by, rise_of}
@@ -47,14 +48,11 @@ module _ (s : List Element) (k : ℕ) where
     below = rw l (least_below none rows)
 
     pub quiet : (I : ℕ) → x < I → I < at → is_visited k s I ≡ false
-    quiet I a b = ⊎_elim
-        (λ v.
+    quiet I a b = false_from_ne_true (is_visited k s I) (λ v.
         let w = visits_place I v in
         let n = zip_at (Holds k (H s) x) s rows w.0 filler unused held w.1 in
         let u = each_at (λ r. at ≤ r.place.next) rows w.0 unused (omega (arith, w.1, AllZip-long (Holds k (H s) x) s rows held)) below in
-        absurd (clash w.2 (n.next.gap I a (omega (arith, u)))))
-        (λ v. v)
-        (test (is_visited k s I))
+        clash w.2 (n.next.gap I a (omega (arith, u))))
 
     module _ (b : at < none) where
       -- the element whose next length it is

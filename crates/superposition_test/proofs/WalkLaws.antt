@@ -1,7 +1,7 @@
 -- What holds whenever the walk turns to its next length, with `before` the last that it compared. Assumes nothing.
 use Prim.Native.Nat.{ℕ, suc, ◌+◌, ◌*◌, ◌-◌, ◌^◌, ◌≤◌, ◌<◌}
 use mathlib.Core.Path.{◌≡◌, refl, sym, ap, ◌∙◌}
-use mathlib.Core.Bool.{Bool, true, false, cond}
+use mathlib.Core.Bool.{true, false, cond}
 use mathlib.Core.List.{List, map}
 use mathlib.Core.Logic.{⊎_elim}
 use native.Mathlib.Omega.{arith}
@@ -9,6 +9,7 @@ use native.Mathlib.Nat.{mul-le-mul_left}
 use borrow.Author.Tests.{lt-ltb, le-ltb}
 use lib.Dec.{ltb}
 use lib.ListN.{length, get_or}
+use Rattle.std.proofs.lemmas.Bool.{false_from_ne_true}
 use Rattle.std.proofs.lemmas.Slice.Zip.{AllZip-long}
 use Rattle.model.specs.declared.elements.Element.{Element}
 use Rattle.model.specs.declared.answers.Verdict.{Verdict}
@@ -18,7 +19,7 @@ use Rattle.model.specs.Elements.{most_h, places, filler, AllLegal}
 use Rattle.model.specs.Demand.{H, D, load_in}
 use Rattle.model.specs.ExactTest.{Lengths, comparing}
 use Rattle.model.specs.Superposition.{m, HD', is_above, is_visited, superposition_lengths}
-use Rattle.model.proofs.Cases.{test, clash, lt_or_le}
+use Rattle.model.proofs.Cases.{clash, lt_or_le}
 use Rattle.model.proofs.NumberLaws.{how_many_zero, how_many_gap, how_many_more, how_many_all}
 use Rattle.model.proofs.OverLaws.{each_map, each_at, sum_le, sum_zero}
 use Rattle.model.proofs.ElementLaws.{Legal, all_legal}
@@ -64,12 +65,9 @@ module _ (s : List Element) (k h : ℕ) where
   -- THE START
   module _ (all : AllLegal s) (short : length s ≤ places) (w : Walkable s k h) where
     zero_unvisited : is_visited k s 0 ≡ false
-    zero_unvisited = ⊎_elim
-        (λ v.
+    zero_unvisited = false_from_ne_true (is_visited k s 0) (λ v.
         let i = visits_place s k 0 v in
-        absurd (clash i.2 (not_at_zero k (get_or s i.0 filler) (each_at Legal s i.0 filler i.1 (all_legal s all)))))
-        (λ v. v)
-        (test (is_visited k s 0))
+        clash i.2 (not_at_zero k (get_or s i.0 filler) (each_at Legal s i.0 filler i.1 (all_legal s all))))
 
     no_slope : (e : Element) → Legal e → cond (ltb 0 (m k e)) 0 (growth.rise_of (H s) e) ≡ 0
     no_slope e g = rw (lt-ltb 0 (m k e) (omega (arith, g.deadline.0)))
@@ -139,7 +137,7 @@ module _ (s : List Element) (k h : ℕ) where
     done : ((I : ℕ) → is_visited k s I ≡ true → I < suc before) → Passes count ≡ verdict
     done rest =
         let u = upto_gap lengths (suc before) lengths.end w.passed (λ J a b.
-        ⊎_elim (λ v. absurd (omega (arith, rest J v))) (λ v. v) (test (is_visited k s J))) in
+        false_from_ne_true (is_visited k s J) (λ v. omega (arith, rest J v))) in
         ap Passes (w.counts ∙ how_many_all (is_visited k s) (suc before) lengths.end rest (visited_below k s))
         ∙ sym (comparing_holds s NotShown lengths u)
 
