@@ -5,9 +5,9 @@ ghost use Rattle.superposition_test.specs.FunctionContracts.{SuperpositionSays};
 
 mod walk;
 
-use load::{Loaded, load_of};
+use load::{Loaded, demand_at, load_of};
 use model::checks::check_k;
-use model::{Answer, Check, TaskSet};
+use model::{Answer, Check, LegalSet, TaskSet, Verdict};
 use walk::walk;
 
 // 9, then a refusal by 3 to 8, or the verdict.
@@ -20,10 +20,18 @@ pub fn superposition(set: TaskSet, k: u32) -> Answer
     match load_of(set) {
         Loaded::Refused(r) => Answer::Refused(r),
         Loaded::AboveOne(verdict) => Answer::Given(verdict),
-        Loaded::AtMostOne {
-            first: _,
-            hyperperiod,
-            load: _,
-        } => Answer::Given(walk(set, k as u64, hyperperiod)),
+        Loaded::AtMostOne { hyperperiod, .. } => {
+            let legal = LegalSet {
+                elements: set.counted(),
+            };
+            match walk(legal, u64::from(k), hyperperiod) {
+                Ok(count) => Answer::Given(Verdict::Passes { count }),
+                Err(held) => Answer::Given(Verdict::NotShown {
+                    interval: held.interval,
+                    demand: demand_at(set, held.interval),
+                    count: held.count,
+                }),
+            }
+        }
     }
 }
