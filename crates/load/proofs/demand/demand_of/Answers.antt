@@ -11,9 +11,10 @@ pub nonzero_div-result : goal.nonzero_div-result
 nonzero_div-result c = omega (arith, (period_within _ _ c.in-Every.is ((legal_parts _).0 c.requires.legal).0).0)
 
 pub returns-in-Once : goal.returns-in-Once
-returns-in-Once c = demand_once _ _ (omega (arith, c.first_due-first.ensures)) c.in-Once.is
+returns-in-Once c = c.from-cost.ensures ∙ demand_once _ _ (omega (arith, c.first_due-first.ensures)) c.in-Once.is
 
 pub returns-in-Every : goal.returns-in-Every
 returns-in-Every c =
     let first = c.first_due-first.ensures in
-    rw first (demand_every _ _ (omega (arith, first)) _ c.in-Every.is ∙ sym (late _ _ (omega (arith, first))))
+    rw (first, c.from.ensures, c.from-cost.ensures)
+    (demand_every c.args.e _ (omega (arith, first)) _ c.in-Every.is ∙ sym (late _ _ (omega (arith, first))))

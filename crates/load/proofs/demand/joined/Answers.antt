@@ -7,4 +7,4 @@ pub nonzero_div-result : goal.nonzero_div-result
 nonzero_div-result c = rw c.gcd.ensures (gcd_positive _ _ (omega (arith, (period_within _ _ c.in-Every.is c.requires.period_legal).0)))
 
 pub returns-in-Every : goal.returns-in-Every
-returns-in-Every c = rw c.gcd.ensures (joined_is _ _ c.in-Every.is _)
+returns-in-Every c = rw (c.gcd.ensures, c.from-p.ensures) (joined_is _ _ c.in-Every.is _)
