@@ -1,7 +1,7 @@
 -- What holds whenever `hyperperiod` turns to the element i: H of the elements before it, and that none of them brought it above its limit. Assumes nothing.
 use Prim.Native.Nat.{ℕ, suc, ◌+◌, ◌≤◌, ◌<◌}
 use mathlib.Core.Path.{◌≡◌, refl, sym, ap, ◌∙◌}
-use mathlib.Core.List.{List}
+use mathlib.Core.List.{List, []}
 use native.Mathlib.Omega.{arith}
 use native.Mathlib.Numerals.{add-one}
 use borrow.Author.Count.{below_more}
@@ -22,9 +22,9 @@ pub record Finding (s : List Element) (h i : ℕ) : Type 0 where
   pub small : h ≤ most_h
   pub before : (j : ℕ) → j < i → H (take (suc j) s) ≤ most_h
 
-pub start : (s : List Element) → Finding s 1 0
+pub start : H [] ≡ 1
 unfolding H
-start s = record { same = refl; small = omega arith; before = λ j l. absurd (omega arith) }
+start = refl
 
 module _ (s : List Element) (legal : AllLegal s) (h i : ℕ) (k : Finding s h i) (l : i < length s) where
   -- H with the element i

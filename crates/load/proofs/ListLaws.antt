@@ -9,7 +9,8 @@ use Rattle.std.specs.List.{sum_by, fold}
 use Rattle.std.proofs.lemmas.List.Sums.{sum_by-cons}
 use Rattle.model.specs.declared.elements.Element.{Element}
 use Rattle.model.specs.Over.{sum_over, largest_over}
-use Rattle.model.specs.Elements.{is_legal, AllLegal}
+use Rattle.model.specs.Elements.{is_period, is_legal, AllLegal}
+use Rattle.model.proofs.ElementLaws.{legal_parts}
 use Rattle.model.proofs.OverLaws.{each_at, all_each}
 
 module _ {A : Type 0} (g : A → ℕ) where
@@ -28,3 +29,6 @@ module _ {A : Type 0} (g : A → ℕ) where
 
 pub legal_at : (s : List Element) → AllLegal s → (d : Element) (i : ℕ) → i < length s → is_legal (get_or s i d) ≡ true
 legal_at s h d i l = each_at (λ e. is_legal e ≡ true) s i d l (all_each s is_legal h)
+
+pub period_at : (s : List Element) → AllLegal s → (d : Element) (i : ℕ) → i < length s → is_period (get_or s i d).period ≡ true
+period_at s h d i l = ((legal_parts (get_or s i d)).0 (legal_at s h d i l)).0

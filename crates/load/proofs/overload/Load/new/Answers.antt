@@ -5,15 +5,6 @@ use Rattle.load.proofs.LoadedLaws.{grows_by_load}
 use Rattle.load.proofs.overload.Load.new.Goals as goal
 use Rattle.load.proofs.overload.Load.new.Goals.{After-demand_in-2}
 
-pub overflow_add-first : goal.overflow_add-first
-overflow_add-first c = omega (arith, first_small _ c.args.set.legal)
-
-pub demand_in-requires : goal.demand_in-requires
-demand_in-requires c = omega (arith, first_small _ c.args.set.legal)
-
-pub demand_in-requires-2 : goal.demand_in-requires-2
-demand_in-requires-2 c = omega (arith, first_small _ c.args.set.legal)
-
 grown : (c : After-demand_in-2) → c.demand_in.result ≡ c.demand_in-2.result + Q c.args.set.elements.now
 grown c =
     c.demand_in.ensures
