@@ -32,7 +32,7 @@ struct Load<'a> {
 
 impl<'a> Load<'a> {
     // Q is what demand grows by in a hyperperiod, from F on.
-    #[tactic(auto, using(theory::proofs::SizeLaws::first_small))]
+    #[tactic(auto, using(theory::proofs::SizeLaws::first_small, crate::proofs::LoadedLaws::grows_by_load))]
     fn new(set: LegalSet<'a>, hyperperiod: u64) -> Load<'a>
         requires multiple { hyperperiod ≡ H set.elements.now }
         requires small { hyperperiod ≤ most_h }
