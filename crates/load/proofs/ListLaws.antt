@@ -10,6 +10,8 @@ use Rattle.std.proofs.lemmas.List.Sums.{sum_by-cons}
 use Rattle.model.specs.declared.elements.Element.{Element}
 use Rattle.model.specs.Over.{sum_over, largest_over}
 use Rattle.model.specs.Elements.{is_period, is_legal, AllLegal}
+use Rattle.model.specs.Demand.{f, F, demand_of, D}
+use Rattle.theory.proofs.LoadLaws.{first_is, demand_is}
 use Rattle.model.proofs.ElementLaws.{legal_parts}
 use Rattle.model.proofs.OverLaws.{each_at, all_each}
 
@@ -32,3 +34,9 @@ legal_at s h d i l = each_at (λ e. is_legal e ≡ true) s i d l (all_each s is_
 
 pub period_at : (s : List Element) → AllLegal s → (d : Element) (i : ℕ) → i < length s → is_period (get_or s i d).period ≡ true
 period_at s h d i l = ((legal_parts (get_or s i d)).0 (legal_at s h d i l)).0
+
+pub demand_sum : (s : List Element) (I : ℕ) → sum_by (λ e. demand_of e I) s ≡ D s I
+demand_sum s I = sum_by_is (λ e. demand_of e I) s ∙ demand_is s I
+
+pub first_max : (s : List Element) → fold (λ a e. max a (f e)) 0 s ≡ F s
+first_max s = largest_is f s ∙ first_is s

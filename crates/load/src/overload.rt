@@ -86,13 +86,13 @@ pub fn load_of(set: TaskSet) -> Result<Loaded, Refusal>
     let set = LegalSet {
         elements: set.counted(),
     };
-    let of = Load::new(set, hyperperiod(set)?);
-    if of.hyperperiod < of.load {
-        return Ok(Loaded::AboveOne(of.overload()));
+    let found = Load::new(set, hyperperiod(set)?);
+    if found.hyperperiod < found.load {
+        return Ok(Loaded::AboveOne(found.overload()));
     }
     Ok(Loaded::AtMostOne {
-        first: of.first,
-        hyperperiod: of.hyperperiod,
-        load: of.load,
+        first: found.first,
+        hyperperiod: found.hyperperiod,
+        load: found.load,
     })
 }

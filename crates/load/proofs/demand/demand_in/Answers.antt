@@ -1,13 +1,12 @@
 use Rattle.std.proofs.Common.{rules, tests, arith, ◌≡◌, ◌<◌, ◌^◌, true, ◌∙◌}
+use Rattle.std.specs.List.{sum_by}
 use Rattle.std.proofs.iter.runs.Made.{chains}
 use Rattle.std.proofs.lemmas.Iterator.{YieldsList-from_slice}
 use Rattle.std.proofs.lemmas.Iterator.Adapters.{serves_from_places}
-use Rattle.std.specs.List.{sum_by}
 use Rattle.model.specs.Elements.{is_legal}
 use Rattle.model.specs.Demand.{demand_of}
-use Rattle.theory.proofs.LoadLaws.{demand_is}
 use Rattle.theory.proofs.SizeLaws.{demand_small}
-use Rattle.load.proofs.ListLaws.{sum_by_is, legal_at}
+use Rattle.load.proofs.ListLaws.{demand_sum, legal_at}
 use Rattle.load.proofs.demand.demand_in.Goals as goal
 
 pub sum-requires-clause-can : goal.sum-requires-clause-can
@@ -21,12 +20,12 @@ sum-requires-clause-can c =
 pub sum-requires-clause-fits : goal.sum-requires-clause-fits
 sum-requires-clause-fits c =
     let s = c.args.set.elements.now in
-    let small : sum_by (λ e. demand_of e c.args.length) s < 2 ^ 64 =
-    omega (arith, sum_by_is (λ e. demand_of e c.args.length) s, demand_is s c.args.length, demand_small s c.args.set.legal c.args.set.few c.args.length, c.requires) in
+    let I = c.args.length in
+    let small : sum_by (λ e. demand_of e I) s < 2 ^ 64 = omega (arith, demand_sum s I, demand_small s c.args.set.legal c.args.set.few I) in
     search (rules, chains)
 
 pub returns : goal.returns
 returns c =
     let s = c.args.set.elements.now in
     let sum : c.sum.result ≡ sum_by (λ e. demand_of e c.args.length) s = search (rules, chains) in
-    sum ∙ sum_by_is _ s ∙ demand_is s c.args.length
+    sum ∙ demand_sum s c.args.length
