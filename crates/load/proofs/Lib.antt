@@ -1,3 +1,4 @@
 pub mod FindingH
+pub mod ListLaws
 pub mod LoadedLaws
 pub mod Outcomes
