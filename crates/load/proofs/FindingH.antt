@@ -10,6 +10,7 @@ use lib.Seq.{take_all}
 use borrow.Author.Tests.{lt-ltb, le-ltb, le-leb, lt-leb}
 use Rattle.std.specs.Prelude.{Ok, Err}
 use Rattle.model.specs.declared.elements.Element.{Element}
+use Rattle.model.specs.declared.answers.Reason.TheVariants.{HyperperiodAboveLimit}
 use Rattle.model.specs.Elements.{most_h, filler, AllLegal}
 use Rattle.model.specs.Demand.{joined, H}
 use Rattle.model.specs.TurnedAway.{first_above}
@@ -34,11 +35,11 @@ module _ (s : List Element) (legal : AllLegal s) (h i : ℕ) (k : Finding s h i)
   pub next : joined (get_or s i filler).period h ≤ most_h → Finding s (joined (get_or s i filler).period h) (i + 1)
   next b = record { same = rw add-one joins; small = b; before = below_more _ i k.before (omega (arith, joins)) }
 
-  pub above : most_h < joined (get_or s i filler).period h → Err (record { number = 8; place = i }) ≡ hyperperiod_of s
+  pub above : most_h < joined (get_or s i filler).period h → Err (record { reason = HyperperiodAboveLimit; place = i }) ≡ hyperperiod_of s
   unfolding first_above
   above b =
       let big : most_h < H (take (suc i) s) = omega (arith, joins) in
       let all : most_h < H s = omega (arith, hyperperiod_of_a_part s legal (suc i)) in
       let first = least_at _ (length s) i (omega arith)
       (record { passes = lt-ltb most_h (H (take (suc i) s)) big; none = λ j a. le-ltb most_h (H (take (suc j) s)) (k.before j a) }) in
-      rw (lt-leb (H s) most_h all) (ap (λ n. Err (record { number = 8; place = n })) (sym first))
+      rw (lt-leb (H s) most_h all) (ap (λ n. Err (record { reason = HyperperiodAboveLimit; place = n })) (sym first))

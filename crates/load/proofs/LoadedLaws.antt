@@ -10,9 +10,9 @@ use borrow.Author.Tests.{lt-ltb, le-ltb, le-leb, lt-leb}
 use Rattle.std.specs.Prelude.{Result, Ok, Err}
 use Rattle.model.specs.declared.elements.Element.{Element}
 use Rattle.model.specs.declared.elements.TaskSet.{TaskSet}
+use Rattle.model.specs.declared.answers.Reason.TheVariants.{HyperperiodAboveLimit}
 use Rattle.model.specs.declared.answers.Refusal.{Refusal}
-use Rattle.model.specs.declared.answers.Check.{Check}
-use Rattle.model.specs.declared.answers.Check.TheVariants.{Fine, TurnedAway}
+use Rattle.model.specs.Answers.{Check}
 use Rattle.model.specs.Over.{all_over}
 use Rattle.model.specs.Elements.{places, most_h, is_legal, AllLegal, counted, is_legal_set}
 use Rattle.model.specs.Demand.{F, H, D, Q}
@@ -32,7 +32,7 @@ module _ (s : List Element) where
   -- what each answer about H tells
   abbrev Tells : Result ℕ Refusal → Type 0
   Tells (Ok h) = (h ≡ H s) × (H s ≤ most_h)
-  Tells (Err r) = (r ≡ record { number = 8; place = first_above s }) × (most_h < H s)
+  Tells (Err r) = (r ≡ record { reason = HyperperiodAboveLimit; place = first_above s }) × (most_h < H s)
 
   pub hyperperiod_tells : (r : Result ℕ Refusal) → hyperperiod_of s ≡ r → Tells r
   hyperperiod_tells r e = subst Tells e (⊎_elim
@@ -45,19 +45,19 @@ module _ (s : List Element) where
   grows_by_load first h legal e g = rw (e, g) (demand_repeats s (F s) legal (omega arith))
 
 -- THE ELEMENTS OF A SET that is fine
-pub elements_legal : (t : TaskSet) → check_set t ≡ Fine → all_over (counted t) is_legal ≡ true
+pub elements_legal : (t : TaskSet) → check_set t ≡ Ok tt → all_over (counted t) is_legal ≡ true
 elements_legal t fine = (fine_is_legal t fine).0
 
-pub elements_few : (t : TaskSet) → check_set t ≡ Fine → length (counted t) ≤ places
+pub elements_few : (t : TaskSet) → check_set t ≡ Ok tt → length (counted t) ≤ places
 elements_few t fine = (fine_is_legal t fine).1
 
 -- WHICH WAY A SET GOES
 module _ (t : TaskSet) where
-  pub refused_first : {r : Refusal} → check_set t ≡ TurnedAway r → Err r ≡ loaded_of t
+  pub refused_first : {r : Refusal} → check_set t ≡ Err r → Err r ≡ loaded_of t
   unfolding loaded_of
   refused_first h = rw h
 
-  module _ (fine : check_set t ≡ Fine) {s : List Element} (e : s ≡ counted t) where
+  module _ (fine : check_set t ≡ Ok tt) {s : List Element} (e : s ≡ counted t) where
     pub refused_by_8 : {r : Refusal} → hyperperiod_of s ≡ Err r → Err r ≡ loaded_of t
     unfolding loaded_of check_h unless
     refused_by_8 {r} h =
@@ -79,18 +79,18 @@ module _ (t : TaskSet) where
 
   -- what each way tells
   abbrev pub Goes : Result Loaded Refusal → Type 0
-  Goes (Err r) = (check_set t then check_h (λ place. place) (counted t)) ≡ TurnedAway r
-  Goes (Ok (AboveOne v)) = (check_set t ≡ Fine) × (v ≡ overload (counted t)) × (H (counted t) ≤ most_h) × (H (counted t) < Q (counted t))
+  Goes (Err r) = (check_set t then check_h (λ place. place) (counted t)) ≡ Err r
+  Goes (Ok (AboveOne v)) = (check_set t ≡ Ok tt) × (v ≡ overload (counted t)) × (H (counted t) ≤ most_h) × (H (counted t) < Q (counted t))
   Goes (Ok (AtMostOne first h q)) =
-      (check_set t ≡ Fine) × (first ≡ F (counted t)) × (h ≡ H (counted t)) × (q ≡ Q (counted t)) × (H (counted t) ≤ most_h) × (Q (counted t) ≤ H (counted t))
+      (check_set t ≡ Ok tt) × (first ≡ F (counted t)) × (h ≡ H (counted t)) × (q ≡ Q (counted t)) × (H (counted t) ≤ most_h) × (Q (counted t) ≤ H (counted t))
 
   pub load_tells : (r : Result Loaded Refusal) → r ≡ loaded_of t → Goes r
   unfolding loaded_of check_h unless
   load_tells r e = subst Goes (sym e) (go (check_set t) refl)
     where
       go : (c : Check) → check_set t ≡ c → Goes (unless_turned (c then check_h (λ place. place) (counted t)) (by_q (counted t)))
-      go (TurnedAway q) h = rw h
-      go Fine h = ⊎_elim
+      go (Err q) h = rw h
+      go (Ok tt) h = ⊎_elim
           (λ (l : most_h < H (counted t)). rw (lt-leb (H (counted t)) most_h l) (rw (h, lt-leb (H (counted t)) most_h l)))
           (λ (l : H (counted t) ≤ most_h). rw (le-leb (H (counted t)) most_h l) (⊎_elim
           (λ (o : H (counted t) < Q (counted t)). rw (lt-ltb (H (counted t)) (Q (counted t)) o) (h, refl, l, o))
@@ -104,7 +104,7 @@ module _ (t : TaskSet) (I : ℕ) where
   unfolding demand_at
   demand_at_lem legal h = rw (legal, le-leb I most_length h)
 
-  pub no_demand_refused : {r : Refusal} → check_set t ≡ TurnedAway r → 0 ≡ demand_at t I
+  pub no_demand_refused : {r : Refusal} → check_set t ≡ Err r → 0 ≡ demand_at t I
   unfolding demand_at
   no_demand_refused h =
       ⊎_elim (λ legal. absurd (turned_is_not_fine (sym h ∙ (set_fine t).1 legal))) (λ (no : is_legal_set t ≡ false). rw no) (test (is_legal_set t))

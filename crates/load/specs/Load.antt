@@ -2,9 +2,9 @@
 use Rattle.std.specs.Prelude.{ℕ, ◌&&◌, cond, List, Result, Ok, Err, leb, ltb}
 use Rattle.model.specs.declared.elements.Element.{Element}
 use Rattle.model.specs.declared.elements.TaskSet.{TaskSet}
+use Rattle.model.specs.declared.answers.Reason.TheVariants.{HyperperiodAboveLimit}
 use Rattle.model.specs.declared.answers.Refusal.{Refusal}
-use Rattle.model.specs.declared.answers.Check.{Check}
-use Rattle.model.specs.declared.answers.Check.TheVariants.{Fine, TurnedAway}
+use Rattle.model.specs.Answers.{Check}
 use Rattle.model.specs.Elements.{most_h, counted, is_legal_set}
 use Rattle.model.specs.Demand.{F, H, D, Q}
 use Rattle.model.specs.ExactTest.{overload}
@@ -15,7 +15,7 @@ use Rattle.load.specs.declared.overload.Loaded.TheVariants.{AboveOne, AtMostOne}
 
 -- H within its limit; or 8, at the first place that brings it above
 abbrev pub hyperperiod_of : List Element → Result ℕ Refusal
-hyperperiod_of s = cond (leb (H s) most_h) (Ok (H s)) (Err (record { number = 8; place = first_above s }))
+hyperperiod_of s = cond (leb (H s) most_h) (Ok (H s)) (Err (record { reason = HyperperiodAboveLimit; place = first_above s }))
 
 -- "If Q > H the verdict is 2"; else F, H and Q
 abbrev pub by_q : List Element → Loaded
@@ -23,8 +23,8 @@ by_q s = let above = overload s in cond (ltb (H s) (Q s)) (AboveOne above) (AtMo
 
 -- a refusal, or the way that a set goes
 abbrev pub unless_turned : Check → Loaded → Result Loaded Refusal
-unless_turned Fine way = Ok way
-unless_turned (TurnedAway r) way = Err r
+unless_turned (Ok u) way = Ok way
+unless_turned (Err r) way = Err r
 
 -- WHAT AN ANALYSIS STARTS WITH: "refuses count and values just as the writer does, then 8 at the table place of the first element that brings
 -- H there"; then by Q

@@ -9,7 +9,7 @@ ghost use Rattle.load.specs.FunctionContracts.{DemandAtSays};
 
 use model::checks::check_set;
 use model::elements::{MOST_HYPERPERIOD, first_due};
-use model::{Check, Element, LegalSet, Period, Refusal, TaskSet};
+use model::{Element, LegalSet, Period, Reason, Refusal, TaskSet};
 
 // No test asks for the demand of a longer one.
 const MOST_LENGTH: u64 = 4_294_967_296;
@@ -52,7 +52,7 @@ pub(crate) fn hyperperiod(set: LegalSet) -> Result<u64, Refusal>
         h = joined(e.period, h);
         if MOST_HYPERPERIOD < h {
             return Err(Refusal {
-                number: 8,
+                reason: Reason::HyperperiodAboveLimit,
                 place: i,
             });
         }
@@ -99,10 +99,7 @@ pub(crate) fn demand_in(set: LegalSet, length: u64) -> u64
 pub fn demand_at(set: TaskSet, length: u64) -> u64
     ensures { DemandAtSays set length result }
 {
-    let Check::Fine = check_set(set) else {
-        return 0;
-    };
-    if MOST_LENGTH < length {
+    if check_set(set).is_err() || MOST_LENGTH < length {
         return 0;
     }
     let set = LegalSet {

@@ -8,7 +8,7 @@ ghost use Rattle.load.specs.FunctionContracts.{LoadOfSays};
 
 use crate::demand::{demand_in, hyperperiod, largest_first};
 use model::checks::check_set;
-use model::{Check, LegalSet, Refusal, TaskSet, Verdict};
+use model::{LegalSet, Refusal, TaskSet, Verdict};
 
 #[derive(Clone, Copy)]
 pub enum Loaded {
@@ -80,9 +80,7 @@ impl<'a> Load<'a> {
 pub fn load_of(set: TaskSet) -> Result<Loaded, Refusal>
     ensures { LoadOfSays set result }
 {
-    if let Check::TurnedAway(r) = check_set(set) {
-        return Err(r);
-    }
+    check_set(set)?;
     let set = LegalSet {
         elements: set.counted(),
     };

@@ -7,26 +7,23 @@ mod walk;
 
 use load::{Loaded, demand_at, load_of};
 use model::checks::check_k;
-use model::{Answer, Check, LegalSet, TaskSet, Verdict};
+use model::{LegalSet, Refusal, TaskSet, Verdict};
 use walk::walk;
 
 // 9, then a refusal by 3 to 8, or the verdict.
-pub fn superposition(set: TaskSet, k: u32) -> Answer
+pub fn superposition(set: TaskSet, k: u32) -> Result<Verdict, Refusal>
     ensures { SuperpositionSays set k result }
 {
-    if let Check::TurnedAway(r) = check_k(k) {
-        return Answer::Refused(r);
-    }
-    match load_of(set) {
-        Loaded::Refused(r) => Answer::Refused(r),
-        Loaded::AboveOne(verdict) => Answer::Given(verdict),
+    check_k(k)?;
+    match load_of(set)? {
+        Loaded::AboveOne(verdict) => Ok(verdict),
         Loaded::AtMostOne { hyperperiod, .. } => {
             let legal = LegalSet {
                 elements: set.counted(),
             };
             match walk(legal, u64::from(k), hyperperiod) {
-                Ok(count) => Answer::Given(Verdict::Passes { count }),
-                Err(held) => Answer::Given(Verdict::NotShown {
+                Ok(count) => Ok(Verdict::Passes { count }),
+                Err(held) => Ok(Verdict::NotShown {
                     interval: held.interval,
                     demand: demand_at(set, held.interval),
                     count: held.count,

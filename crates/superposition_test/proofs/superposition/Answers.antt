@@ -1,5 +1,5 @@
 use Rattle.std.proofs.Common.{arith, ◌≡◌, sym, ◌∙◌, length-take}
-use Rattle.model.specs.declared.answers.Check.TheVariants.{Fine}
+use Rattle.std.specs.Prelude.{Ok}
 use Rattle.model.specs.TurnedAway.{check_k}
 use Rattle.model.proofs.ElementLaws.{legal_set}
 use Rattle.model.proofs.TurnedAwayLaws.{set_fine, k_fine}
@@ -9,7 +9,7 @@ use Rattle.load.proofs.LoadedLaws.{Goes, load_tells, demand_at_lem}
 use Rattle.superposition_test.proofs.superposition.Goals as goal
 use Rattle.superposition_test.proofs.superposition.Goals.{In_default, In-AtMostOne}
 
-fine : (c : In_default) → check_k c.args.k ≡ Fine
+fine : (c : In_default) → check_k c.args.k ≡ Ok tt
 fine c = sym c.check_k.ensures ∙ c.in_default.is
 
 -- F, H and Q, of a legal set with load at most one
