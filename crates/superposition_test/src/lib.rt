@@ -15,7 +15,8 @@ pub fn superposition(set: TaskSet, k: u32) -> Result<Verdict, Refusal>
     ensures { SuperpositionSays set k result }
 {
     check_k(k)?;
-    match load_of(set)? {
+    let loaded = load_of(set)?;
+    match loaded {
         Loaded::AboveOne(verdict) => Ok(verdict),
         Loaded::AtMostOne { hyperperiod, .. } => {
             let legal = LegalSet {
