@@ -1,14 +1,13 @@
 -- What holds whenever `hyperperiod` turns to the element i: H of the elements before it, and that none of them brought it above its limit. Assumes nothing.
 use Prim.Native.Nat.{ℕ, suc, ◌+◌, ◌≤◌, ◌<◌}
-use mathlib.Core.Path.{◌≡◌, refl, sym, ap, ◌∙◌}
+use mathlib.Core.Path.{◌≡◌, refl, sym, ap}
 use mathlib.Core.List.{List, []}
 use native.Mathlib.Omega.{arith}
 use native.Mathlib.Numerals.{add-one}
 use borrow.Author.Count.{below_more}
 use lib.ListN.{length, get_or, take}
-use lib.Seq.{take_all}
-use borrow.Author.Tests.{lt-ltb, le-ltb, le-leb, lt-leb}
-use Rattle.std.specs.Prelude.{Ok, Err}
+use borrow.Author.Tests.{lt-ltb, le-ltb, lt-leb}
+use Rattle.std.specs.Prelude.{Err}
 use Rattle.model.specs.declared.elements.Element.{Element}
 use Rattle.model.specs.declared.answers.Reason.TheVariants.{HyperperiodAboveLimit}
 use Rattle.model.specs.Elements.{most_h, filler, AllLegal}

@@ -1,6 +1,6 @@
 -- What is said over a list's elements in the words of std. Assumes nothing.
-use Prim.Native.Nat.{ℕ, ◌+◌, ◌<◌, max}
-use mathlib.Core.Path.{◌≡◌, refl, sym, ◌∙◌}
+use Prim.Native.Nat.{ℕ, ◌<◌, max}
+use mathlib.Core.Path.{◌≡◌, refl, ◌∙◌}
 use mathlib.Core.Bool.{true}
 use mathlib.Core.List.{List, [], ◌∷◌}
 use native.Mathlib.Omega.{arith}

@@ -15,7 +15,7 @@ use model::{Element, LegalSet, Period, Reason, Refusal, TaskSet};
 const MOST_LENGTH: u64 = 4_294_967_296;
 
 // Euclid's steps.
-#[tactic(auto, using(model::proofs::NumberLaws::gcd_step, model::proofs::NumberLaws::gcd_zero))]
+#[tactic(auto, using(crate::proofs::Rules::of_gcd))]
 fn gcd(a: u64, b: u64) -> u64
     ensures { result ≡ the_gcd a b }
 {
@@ -27,7 +27,7 @@ fn gcd(a: u64, b: u64) -> u64
     x
 }
 
-#[tactic(auto, using(model::proofs::NumberLaws::gcd_positive, theory::proofs::LoadLaws::joined_is, theory::proofs::LoadLaws::period_within))]
+#[tactic(auto, using(crate::proofs::Rules::of_joined))]
 fn joined(period: Period, h: u64) -> u64
     requires period_legal { is_period period ≡ true }
     requires h_small { h ≤ most_h }
@@ -43,7 +43,7 @@ fn joined(period: Period, h: u64) -> u64
 }
 
 // H; or 8, at the first place that brings it above its limit.
-#[tactic(auto, using(crate::proofs::FindingH::start, crate::proofs::FindingH::next, crate::proofs::FindingH::above, crate::proofs::ListLaws::period_at))]
+#[tactic(auto, using(crate::proofs::Rules::of_hyperperiod))]
 pub(crate) fn hyperperiod(set: LegalSet) -> Result<u64, Refusal>
     ensures { result ≡ hyperperiod_of set.entry.elements.now }
 {
@@ -70,7 +70,7 @@ pub(crate) fn largest_first(set: LegalSet) -> u64
         .unwrap_or(0)
 }
 
-#[tactic(auto, using(theory::proofs::DemandLaws::early, theory::proofs::DemandLaws::late, theory::proofs::LoadLaws::demand_once, theory::proofs::LoadLaws::demand_every, theory::proofs::LoadLaws::period_within, model::proofs::ElementLaws::legal_parts))]
+#[tactic(auto, using(crate::proofs::Rules::of_demand_of))]
 fn demand_of(e: Element, length: u64) -> u64
     requires legal { is_legal e ≡ true }
     requires short { length ≤ most_length }
@@ -95,7 +95,7 @@ pub(crate) fn demand_in(set: LegalSet, length: u64) -> u64
 }
 
 // D at a length of up to 2^32 ticks, of a set that is legal; 0 of any other, or past that.
-#[tactic(auto, using(model::proofs::TurnedAwayLaws::set_fine, crate::proofs::LoadedLaws::elements_legal, crate::proofs::LoadedLaws::elements_few, crate::proofs::LoadedLaws::no_demand_refused, crate::proofs::LoadedLaws::no_demand_past, crate::proofs::LoadedLaws::demand_at_lem))]
+#[tactic(auto, using(crate::proofs::Rules::of_demand_at))]
 pub fn demand_at(set: TaskSet, length: u64) -> u64
     ensures { DemandAtSays set length result }
 {

@@ -32,7 +32,7 @@ struct Load<'a> {
 
 impl<'a> Load<'a> {
     // Q is what demand grows by in a hyperperiod, from F on.
-    #[tactic(auto, using(theory::proofs::SizeLaws::first_small, crate::proofs::LoadedLaws::grows_by_load))]
+    #[tactic(auto, using(crate::proofs::Rules::of_load))]
     fn new(set: LegalSet<'a>, hyperperiod: u64) -> Load<'a>
         requires multiple { hyperperiod ≡ H set.elements.now }
         requires small { hyperperiod ≤ most_h }
@@ -49,7 +49,7 @@ impl<'a> Load<'a> {
     }
 
     // The first overrun among F, F + H, F + 2H and so on: each brings demand nearer by Q - H.
-    #[tactic(auto, using(theory::proofs::SizeLaws::first_small, theory::proofs::OverloadLaws::at_first, theory::proofs::OverloadLaws::at_later, theory::proofs::OverloadLaws::later_turns, theory::proofs::OverloadLaws::later_ticks, theory::proofs::OverloadLaws::later_demand))]
+    #[tactic(auto, using(crate::proofs::Rules::of_overload))]
     fn overload(self) -> Verdict
         requires { self.hyperperiod < self.load }
         ensures { result ≡ the_overload self.entry.set.elements.now }
@@ -76,7 +76,7 @@ impl<'a> Load<'a> {
 }
 
 // A refusal by 3 to 8; or verdict 2; or F, H and Q, with load at most one.
-#[tactic(auto, using(crate::proofs::LoadedLaws::elements_legal, crate::proofs::LoadedLaws::elements_few, crate::proofs::LoadedLaws::refused_first, crate::proofs::LoadedLaws::refused_by_8, crate::proofs::LoadedLaws::above_one, crate::proofs::LoadedLaws::at_most_one))]
+#[tactic(auto, using(crate::proofs::Rules::of_load_of))]
 pub fn load_of(set: TaskSet) -> Result<Loaded, Refusal>
     ensures { LoadOfSays set result }
 {
