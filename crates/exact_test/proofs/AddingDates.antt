@@ -1,6 +1,6 @@
 -- What holds whenever `add_dates` turns to the date j, from the first to past the last. Assumes nothing.
-use Prim.Native.Nat.{ℕ, ◌+◌, ◌*◌, ◌/◌, ◌%◌, ◌^◌, ◌≤◌, ◌<◌}
-use mathlib.Core.Path.{◌≡◌, refl, sym, ◌∙◌}
+use Prim.Native.Nat.{ℕ, ◌+◌, ◌-◌, ◌*◌, ◌/◌, ◌%◌, ◌^◌, ◌≤◌, ◌<◌}
+use mathlib.Core.Path.{◌≡◌, refl, sym, ap, ◌∙◌}
 use mathlib.Core.List.{List}
 use native.Mathlib.Decide.{ℕ_discrete}
 use native.Mathlib.Omega.{arith}
@@ -8,7 +8,9 @@ use lib.Bits.{bit_or, or_lt}
 use lib.Pow.{pow-lt}
 use lib.ListN.{get_or, set, length-set}
 use lib.Seq.{get_or-set_same, get_or-set_other}
-use Rattle.exact_test.specs.Segments.{is_date, ticks, IsWord, part, Marked, Added}
+use Rattle.places.specs.Columns.{most_bound}
+use Rattle.places.specs.declared.columns.Place.{Place}
+use Rattle.exact_test.specs.Segments.{is_date, ticks, most_next, IsWord, part, Marked, Fit, Added}
 use Rattle.exact_test.proofs.BitLaws.{or_set, or_keep, or_one, sign_some}
 use Rattle.exact_test.proofs.DateLaws.{date_next}
 use Rattle.exact_test.proofs.SegmentLaws.{part_most, part_here, part_before}
@@ -63,51 +65,58 @@ mark due marks seen j v l p m =
           ];
     }
 
--- what the dates from j on add is still to come
-pub record Adding (due₀ due marks : List ℕ) (at step cost len j seen : ℕ) : Type 0 where
-  pub kept : (y : ℕ) → y < len → get_or due y 0 + part j step cost y ≡ get_or due₀ y 0 + part at step cost y
+-- j ticks after base, what the place's dates from there on add is still to come
+pub record Adding (due₀ due marks : List ℕ) (p : Place) (base len j seen : ℕ) : Type 0 where
+  pub kept : (y : ℕ) → y < len → get_or due y 0 + part (base + j) p.step p.cost (base + y) ≡ get_or due₀ y 0 + part p.next p.step p.cost (base + y)
   pub rest : (y : ℕ) → len ≤ y → get_or due y 0 ≡ get_or due₀ y 0
-  pub same : (y : ℕ) → len ≤ y → is_date j step y ≡ is_date at step y
-  pub near : (m : ℕ) → at ≤ m → len + step ≤ m → j ≤ m
+  pub same : (I : ℕ) → base + len ≤ I → is_date (base + j) p.step I ≡ is_date p.next p.step I
+  pub near : base + j ≤ most_next
   pub marked : Marked due marks seen
 
-pub start : {due marks : List ℕ} {at step cost len seen : ℕ} → Marked due marks seen → Adding due due marks at step cost len at seen
-start m =
+pub start : {due marks : List ℕ} {p : Place} {base len seen : ℕ} → Marked due marks seen → Fit p base → Adding due due marks p base len (p.next - base) seen
+start {p = p} {base = base} m fit =
+    let e : base + (p.next - base) ≡ p.next = omega (arith, fit.from) in
     record {
-      kept = λ y h. refl;
+      kept = λ y h. rw e;
       rest = λ y h. refl;
-      same = λ y h. refl;
-      near = λ n h k. h;
+      same = λ I h. rw e;
+      near = omega (arith, fit.near);
       marked = m;
     }
 
-module _ {due₀ due marks : List ℕ} {at step cost len j seen : ℕ} (v : Adding due₀ due marks at step cost len j seen) where
-  module _ (p : 1 ≤ step) (q : 1 ≤ cost) (l : len ≤ ticks) (h : j < len) where
-    pub room : ((y : ℕ) → IsWord (get_or due₀ y 0 + cost)) → IsWord (get_or due j 0 + cost)
-    room fits = omega (arith, v.kept j h, part_here j step cost, part_most at step cost j, fits j)
+module _ {due₀ due marks : List ℕ} {p : Place} {base len j seen : ℕ} (v : Adding due₀ due marks p base len j seen) (fit : Fit p base) where
+  module _ (l : len ≤ ticks) (h : j < len) where
+    pub room : ((y : ℕ) → IsWord (get_or due₀ y 0 + p.cost)) → IsWord (get_or due j 0 + p.cost)
+    room fits = omega (arith, v.kept j h, part_here (base + j) p.step p.cost, part_most p.next p.step p.cost (base + j), fits j)
 
-    pub next : Adding due₀ (set due j (get_or due j 0 + cost)) (marks_with marks j) at step cost len (j + step) (seen_with seen j)
-    next =
+    after : (I : ℕ) → (I ≡ base + j → ⊥) → is_date (base + j) p.step I ≡ is_date (base + (j + p.step)) p.step I
+    after I n = date_next (base + j) p.step I n ∙ ap (λ x. is_date x p.step I) (omega arith)
+
+    pub next : base + len ≤ most_bound → Adding due₀ (set due j (get_or due j 0 + p.cost)) (marks_with marks j) p base len (j + p.step) (seen_with seen j)
+    next b =
         record {
-          kept = λ y b.
+          kept = λ y u.
               elim (ℕ_discrete y j) [
                 | yes e ↦
-                    rw (e, get_or-set_same due j (get_or due j 0 + cost) 0 (omega (arith, v.marked.due_long)))
-                    (omega (arith, v.kept j h, part_here j step cost, part_before (j + step) step cost j (omega arith)))
-                | no n ↦ rw (get_or-set_other due j y (get_or due j 0 + cost) 0 n, ← date_next j step y n) (v.kept y b)
+                    rw (e, get_or-set_same due j (get_or due j 0 + p.cost) 0 (omega (arith, v.marked.due_long)))
+                    (omega (arith, v.kept j h, part_here (base + j) p.step p.cost,
+                    part_before (base + (j + p.step)) p.step p.cost (base + j) (omega (arith, fit.steps.0))))
+                | no n ↦ rw (get_or-set_other due j y (get_or due j 0 + p.cost) 0 n, ← after (base + y) (λ e. n (omega arith))) (v.kept y u)
               ];
-          rest = λ y b. get_or-set_other due j y (get_or due j 0 + cost) 0 (λ e. omega arith) ∙ v.rest y b;
-          same = λ y b. sym (date_next j step y (λ e. omega arith)) ∙ v.same y b;
-          near = λ m a b. omega arith;
-          marked = mark due marks seen j (get_or due j 0 + cost) (omega arith) (omega arith) v.marked;
+          rest = λ y u. get_or-set_other due j y (get_or due j 0 + p.cost) 0 (λ e. omega arith) ∙ v.rest y u;
+          same = λ I u. sym (after I (λ e. omega arith)) ∙ v.same I u;
+          near = omega (arith, fit.steps.1);
+          marked = mark due marks seen j (get_or due j 0 + p.cost) (omega arith) (omega (arith, fit.costs.0)) v.marked;
         }
 
-  pub end : len ≤ j → Added due₀ due at step cost len j
+  pub end : len ≤ j → Added due₀ due p (record p { next = base + j }) base len
   end h =
       record {
-        each = λ y b. omega (arith, v.kept y b, part_before j step cost y (omega arith));
+        each = λ y u. omega (arith, v.kept y u, part_before (base + j) p.step p.cost (base + y) (omega arith));
         rest = v.rest;
-        past = h;
-        same = v.same;
-        near = v.near;
+        moved = record {
+          kept = refl;
+          fit = record { from = omega arith; near = v.near; steps = fit.steps; costs = fit.costs };
+          same = v.same;
+        };
       }

@@ -49,17 +49,6 @@ date_next next step I h =
           ]
     ]
 
--- dates counted from base on
-pub date_shift : (base next step y : ℕ) → is_date (base + next) step (base + y) ≡ is_date next step y
-unfolding is_date
-date_shift base next step y =
-    elim (dec_lt y next) [
-      | yes h ↦ rw (lt-leb (base + next) (base + y) (omega arith), lt-leb next y h)
-      | no h ↦
-          let e : base + y - (base + next) ≡ y - next = omega arith in
-          rw (le-leb (base + next) (base + y) (omega arith), le-leb next y (omega arith), e)
-    ]
-
 -- AN ELEMENT'S DATES
 step_date : (q : Period) (x : ℕ) → x < most_bound → on_date q x ≡ eqb (x % step_of q) 0
 step_date Once x h = let m : x % most_bound ≡ x = mod-eq_of_lt h in rw m
