@@ -99,8 +99,12 @@ module _ {due₀ due marks : List ℕ} {p : Place} {base len j seen : ℕ} (v : 
               elim (ℕ_discrete y j) [
                 | yes e ↦
                     rw (e, get_or-set_same due j (get_or due j 0 + p.cost) 0 (omega (arith, v.marked.due_long)))
-                    (omega (arith, v.kept j h, part_here (base + j) p.step p.cost,
-                    part_before (base + (j + p.step)) p.step p.cost (base + j) (omega (arith, fit.steps.0))))
+                    (omega (
+                      arith,
+                      v.kept j h,
+                      part_here (base + j) p.step p.cost,
+                      part_before (base + (j + p.step)) p.step p.cost (base + j) (omega (arith, fit.steps.0)),
+                    ))
                 | no n ↦ rw (get_or-set_other due j y (get_or due j 0 + p.cost) 0 n, ← after (base + y) (λ e. n (omega arith))) (v.kept y u)
               ];
           rest = λ y u. get_or-set_other due j y (get_or due j 0 + p.cost) 0 (λ e. omega arith) ∙ v.rest y u;

@@ -1,23 +1,20 @@
 -- What holds whenever `compare_segments` turns to the segment that begins at base: every length below it is compared. Assumes nothing.
-use Prim.Native.Nat.{ℕ, suc, ◌+◌, ◌-◌, ◌≤◌, ◌<◌, min}
-use mathlib.Core.Path.{◌≡◌, refl, sym, ap, ◌∙◌}
+use Prim.Native.Nat.{ℕ, ◌+◌, ◌-◌, ◌≤◌, ◌<◌, min}
+use mathlib.Core.Path.{◌≡◌, sym, ap, ◌∙◌}
 use mathlib.Core.Bool.{false}
 use mathlib.Core.List.{List, map}
 use mathlib.Core.Logic.{⊎_elim}
 use native.Mathlib.Omega.{arith}
 use lib.ListN.{length, length-map, get_or, replicate}
-use Rattle.std.specs.Prelude.{Result, Ok}
+use Rattle.std.specs.Prelude.{Ok}
 use Rattle.model.specs.declared.elements.Element.{Element}
-use Rattle.model.specs.declared.answers.Verdict.{Verdict}
 use Rattle.model.specs.declared.answers.Verdict.TheVariants.{Passes, Overrun}
-use Rattle.model.specs.Number.{how_many}
 use Rattle.model.specs.Elements.{places, AllLegal, filler}
-use Rattle.model.specs.Demand.{D, is_test_of, is_test}
+use Rattle.model.specs.Demand.{is_test_of, is_test}
 use Rattle.model.specs.ExactTest.{comparing}
 use Rattle.model.proofs.Cases.{test, clash}
 use Rattle.model.proofs.OverLaws.{some_at}
 use Rattle.model.proofs.NumberLaws.{how_many_most, how_many_gap, how_many_zero}
-use Rattle.theory.specs.Growth.{due_at}
 use Rattle.theory.specs.TestLengths.{lengths_below}
 use Rattle.theory.proofs.TestLengthsAre.{test_lengths_are, zero_is_no_test_length}
 use Rattle.theory.proofs.DemandRests.{demand_at_zero, demand_changes_only_at_test_lengths}

@@ -1,13 +1,13 @@
 -- How a segment meets the definitions: it begins empty, the places of a legal set fit, and what they add is the cost due. Assumes nothing.
 use Prim.Native.Nat.{ℕ, zero, suc, ◌+◌, ◌*◌, ◌≤◌, ◌<◌}
-use mathlib.Core.Path.{◌≡◌, refl, sym, ap₂, ◌∙◌}
-use mathlib.Core.Bool.{Bool, cond}
+use mathlib.Core.Path.{◌≡◌, refl, sym, ap₂}
+use mathlib.Core.Bool.{Bool}
 use mathlib.Core.List.{List, [], ◌∷◌, map}
 use mathlib.Core.Logic.{⊎_elim}
 use native.Mathlib.Nat.{zero-add}
 use native.Mathlib.Omega.{arith}
 use lib.Dec.{ltb}
-use lib.ListN.{length, length-map, get_or, replicate, length-replicate}
+use lib.ListN.{length, get_or, replicate, length-replicate}
 use borrow.Author.Tests.{lt-ltb}
 use Rattle.std.proofs.lemmas.List.{get_or-map}
 use Rattle.model.specs.declared.elements.Element.{Element}
@@ -21,7 +21,7 @@ use Rattle.theory.specs.Growth.{cost_of, due_at}
 use Rattle.places.specs.declared.columns.Place.{Place}
 use Rattle.places.specs.Columns.{most_bound, place_of}
 use Rattle.places.proofs.ColumnLaws.{step_within}
-use Rattle.exact_test.specs.Segments.{is_date, ticks, part, due_of, place_at, Marked, Fit, Addable, Full, total, Zero}
+use Rattle.exact_test.specs.Segments.{is_date, ticks, due_of, place_at, Marked, Fit, Addable, Full, total, Zero}
 use Rattle.exact_test.proofs.BitLaws.{bit_zero}
 use Rattle.exact_test.proofs.DateLaws.{test_date}
 use Rattle.exact_test.proofs.SegmentLaws.{due_most, total_most}

@@ -107,10 +107,10 @@ module _ {due marks : List ℕ} {seen words k w : ℕ} (v : Word due marks seen 
       let back : set marks k w ≡ marks = ap (set marks k) (e ∙ sym v.none) ∙ set-get_or marks k 0 in (
         rw back at v.marked,
         λ l i a b h.
-        elim (ℕ_discrete l k) [
-          | yes q ↦ absurd (omega (arith, none_sign (get_or due (k * 64 + i) 0) (z i b), rw q at h))
-          | no n ↦ v.rest l i a b n h
-        ],
+            elim (ℕ_discrete l k) [
+              | yes q ↦ absurd (omega (arith, none_sign (get_or due (k * 64 + i) 0) (z i b), rw q at h))
+              | no n ↦ v.rest l i a b n h
+            ],
       )
 
   module _ (p : 0 < w) where
