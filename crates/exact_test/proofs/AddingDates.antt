@@ -10,7 +10,7 @@ use lib.ListN.{get_or, set, length-set}
 use lib.Seq.{get_or-set_same, get_or-set_other}
 use Rattle.places.specs.Columns.{most_bound}
 use Rattle.places.specs.declared.columns.Place.{Place}
-use Rattle.exact_test.specs.Segments.{is_date, ticks, most_next, IsWord, part, Marked, Fit, Added}
+use Rattle.exact_test.specs.Segments.{is_date, at_date, ticks, most_next, IsWord, part, Marked, Fit, Added}
 use Rattle.exact_test.proofs.BitLaws.{or_set, or_keep, or_one, sign_some}
 use Rattle.exact_test.proofs.DateLaws.{date_next}
 use Rattle.exact_test.proofs.SegmentLaws.{part_most, part_here, part_before}
@@ -67,9 +67,9 @@ mark due marks seen j v l p m =
 
 -- j ticks after base, what the place's dates from there on add is still to come
 pub record Adding (due₀ due marks : List ℕ) (p : Place) (base len j seen : ℕ) : Type 0 where
-  pub kept : (y : ℕ) → y < len → get_or due y 0 + part (base + j) p.step p.cost (base + y) ≡ get_or due₀ y 0 + part p.next p.step p.cost (base + y)
+  pub kept : (y : ℕ) → y < len → get_or due y 0 + part (at_date p (base + j)) (base + y) ≡ get_or due₀ y 0 + part p (base + y)
   pub rest : (y : ℕ) → len ≤ y → get_or due y 0 ≡ get_or due₀ y 0
-  pub same : (I : ℕ) → base + len ≤ I → is_date (base + j) p.step I ≡ is_date p.next p.step I
+  pub same : (I : ℕ) → base + len ≤ I → is_date (at_date p (base + j)) I ≡ is_date p I
   pub near : base + j ≤ most_next
   pub marked : Marked due marks seen
 
@@ -87,10 +87,10 @@ start {p = p} {base = base} m fit =
 module _ {due₀ due marks : List ℕ} {p : Place} {base len j seen : ℕ} (v : Adding due₀ due marks p base len j seen) (fit : Fit p base) where
   module _ (l : len ≤ ticks) (h : j < len) where
     pub room : ((y : ℕ) → IsWord (get_or due₀ y 0 + p.cost)) → IsWord (get_or due j 0 + p.cost)
-    room fits = omega (arith, v.kept j h, part_here (base + j) p.step p.cost, part_most p.next p.step p.cost (base + j), fits j)
+    room fits = omega (arith, v.kept j h, part_here (at_date p (base + j)), part_most p (base + j), fits j)
 
-    after : (I : ℕ) → (I ≡ base + j → ⊥) → is_date (base + j) p.step I ≡ is_date (base + (j + p.step)) p.step I
-    after I n = date_next (base + j) p.step I n ∙ ap (λ x. is_date x p.step I) (omega arith)
+    after : (I : ℕ) → (I ≡ base + j → ⊥) → is_date (at_date p (base + j)) I ≡ is_date (at_date p (base + (j + p.step))) I
+    after I n = date_next (at_date p (base + j)) I n ∙ ap (λ x. is_date (at_date p x) I) (omega arith)
 
     pub next : base + len ≤ most_bound → Adding due₀ (set due j (get_or due j 0 + p.cost)) (marks_with marks j) p base len (j + p.step) (seen_with seen j)
     next b =
@@ -102,8 +102,8 @@ module _ {due₀ due marks : List ℕ} {p : Place} {base len j seen : ℕ} (v : 
                     (omega (
                       arith,
                       v.kept j h,
-                      part_here (base + j) p.step p.cost,
-                      part_before (base + (j + p.step)) p.step p.cost (base + j) (omega (arith, fit.steps.0)),
+                      part_here (at_date p (base + j)),
+                      part_before (at_date p (base + (j + p.step))) (base + j) (omega (arith, fit.steps.0)),
                     ))
                 | no n ↦ rw (get_or-set_other due j y (get_or due j 0 + p.cost) 0 n, ← after (base + y) (λ e. n (omega arith))) (v.kept y u)
               ];
@@ -113,10 +113,10 @@ module _ {due₀ due marks : List ℕ} {p : Place} {base len j seen : ℕ} (v : 
           marked = mark due marks seen j (get_or due j 0 + p.cost) (omega arith) (omega (arith, fit.costs.0)) v.marked;
         }
 
-  pub end : len ≤ j → Added due₀ due p (record p { next = base + j }) base len
+  pub end : len ≤ j → Added due₀ due p (at_date p (base + j)) base len
   end h =
       record {
-        each = λ y u. omega (arith, v.kept y u, part_before (base + j) p.step p.cost (base + y) (omega arith));
+        each = λ y u. omega (arith, v.kept y u, part_before (at_date p (base + j)) (base + y) (omega arith));
         rest = v.rest;
         moved = record {
           kept = refl;

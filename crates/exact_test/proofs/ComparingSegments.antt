@@ -115,8 +115,7 @@ module _ {s : List Element} {bound : ℕ} {rows : List Place} {due : List ℕ} {
         let w = some_at s (λ e. is_test_of e I) filler p in
         let h : w.0 < length rows = omega (arith, w.1, k.long) in
         let m = full.moved w.0 h in
-        let p' = place_at rows' w.0 in
-        absurd (clash (m.same I a ∙ sym ((k.follows w.0 w.1).dates I (omega arith) l) ∙ w.2) (date_before p'.next p'.step I (omega (arith, full.least w.0 h)))))
+        absurd (clash (m.same I a ∙ sym ((k.follows w.0 w.1).dates I (omega arith) l) ∙ w.2) (date_before (place_at rows' w.0) I (omega (arith, full.least w.0 h)))))
         (λ p. p)
         (test (is_test s I))
 

@@ -27,7 +27,7 @@ pub record Filling (rows₀ rows : List Place) (due : List ℕ) (base len low i 
 pub none_added : (due : List ℕ) {p : Place} {base : ℕ} (len : ℕ) → Fit p base → base + len ≤ p.next → Added due due p p base len
 none_added due {p} {base} len fit h =
     record {
-      each = λ y u. omega (arith, part_before p.next p.step p.cost (base + y) (omega arith));
+      each = λ y u. omega (arith, part_before p (base + y) (omega arith));
       rest = λ y u. refl;
       moved = record {
         kept = refl;
@@ -72,7 +72,7 @@ module _ {rows₀ rows : List Place} {due : List ℕ} {base len low i : ℕ} (v 
           small = λ y.
               elim (dec_lt y len) [
                 | yes u ↦
-                    let most = part_most (place_at rows i).next (place_at rows i).step (place_at rows i).cost (base + y) in
+                    let most = part_most (place_at rows i) (base + y) in
                     omega (arith, a.each y u, v.small y, most, fits.costs.1)
                 | no u ↦ omega (arith, a.rest y (omega arith), v.small y)
               ];

@@ -17,19 +17,19 @@ use Rattle.exact_test.specs.Segments.{is_date, part, due_of, place_at, with_due,
 use Rattle.exact_test.proofs.DateLaws.{date_self, date_before}
 
 -- WHAT A PLACE ADDS
-module _ (next step cost : ℕ) where
-  pub part_most : (I : ℕ) → part next step cost I ≤ cost
-  part_most I = go (is_date next step I)
+module _ (p : Place) where
+  pub part_most : (I : ℕ) → part p I ≤ p.cost
+  part_most I = go (is_date p I)
     where
-      go : (b : Bool) → cond b cost 0 ≤ cost
+      go : (b : Bool) → cond b p.cost 0 ≤ p.cost
       go true = omega arith
       go false = omega arith
 
-  pub part_here : part next step cost next ≡ cost
-  part_here = rw (date_self next step)
+  pub part_here : part p p.next ≡ p.cost
+  part_here = rw (date_self p)
 
-  pub part_before : (I : ℕ) → I < next → part next step cost I ≡ 0
-  part_before I h = rw (date_before next step I h)
+  pub part_before : (I : ℕ) → I < p.next → part p I ≡ 0
+  part_before I h = rw (date_before p I h)
 
 -- WHAT THE PLACES ADD
 pub due_none : (ps : List Place) (I : ℕ) → due_of (take 0 ps) I ≡ 0
@@ -38,15 +38,15 @@ due_none ps I = refl
 
 pub due_more : (ps : List Place) (i I : ℕ) → i < length ps →
     due_of (take (i + 1) ps) I
-    ≡ due_of (take i ps) I + part (place_at ps i).next (place_at ps i).step (place_at ps i).cost I
+    ≡ due_of (take i ps) I + part (place_at ps i) I
 unfolding due_of
-due_more ps i I h = rw (add-one i) (sum_more ps (λ p. part p.next p.step p.cost I) (place_at [] 0) i h)
+due_more ps i I h = rw (add-one i) (sum_more ps (λ p. part p I) (place_at [] 0) i h)
 
 pub due_most : (ps : List Place) (I most : ℕ) → ((i : ℕ) → i < length ps → (place_at ps i).cost ≤ most) → due_of ps I ≤ length ps * most
 unfolding due_of sum_over
 due_most [] I most h = omega arith
 due_most (p ∷ ps) I most h =
-    omega (arith, part_most p.next p.step p.cost I, h 0 (omega arith), due_most ps I most (λ i l. h (suc i) (omega arith)))
+    omega (arith, part_most p I, h 0 (omega arith), due_most ps I most (λ i l. h (suc i) (omega arith)))
 
 -- THE SUM OF THE ENTRIES
 pub total_most :

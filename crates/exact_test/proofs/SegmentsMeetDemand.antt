@@ -44,7 +44,7 @@ none_marked =
 
 -- FROM base ON and below the bound, the dates of the place are the test lengths of the element
 pub record Follows (base bound : ℕ) (e : Element) (p : Place) : Type 0 where
-  pub dates : (I : ℕ) → base ≤ I → I < bound → is_test_of e I ≡ is_date p.next p.step I
+  pub dates : (I : ℕ) → base ≤ I → I < bound → is_test_of e I ≡ is_date p I
   pub cost : p.cost ≡ e.cost
 
 -- the elements as places, from length 1 on

@@ -31,16 +31,16 @@ sign zero = 0
 sign (suc n) = 1
 
 -- I is next, next + step, next + 2 step or so on
-unfoldable pub is_date : ℕ → ℕ → ℕ → Bool
-is_date next step I = leb next I && eqb ((I - next) % step) 0
+unfoldable pub is_date : Place → ℕ → Bool
+is_date p I = leb p.next I && eqb ((I - p.next) % p.step) 0
 
 -- what a place adds at the length I
-abbrev pub part : ℕ → ℕ → ℕ → ℕ → ℕ
-part next step cost I = cond (is_date next step I) cost 0
+abbrev pub part : Place → ℕ → ℕ
+part p I = cond (is_date p I) p.cost 0
 
 -- what the places add at the length I
 unfoldable pub due_of : List Place → ℕ → ℕ
-due_of places I = sum_over places (λ p. part p.next p.step p.cost I)
+due_of places I = sum_over places (λ p. part p I)
 
 -- seen has the bit k where due has something in the word k: at some k * 64 + i
 abbrev pub Covers : List ℕ → ℕ → Type 0
@@ -61,15 +61,19 @@ pub record Fit (p : Place) (base : ℕ) : Type 0 where
   pub steps : (1 ≤ p.step) × (p.step ≤ most_bound)
   pub costs : (1 ≤ p.cost) × (p.cost ≤ most_cost)
 
+-- the place with its next date at I
+abbrev pub at_date : Place → ℕ → Place
+at_date p I = record { next = I; step = p.step; cost = p.cost }
+
 -- the place p₀ has moved on to its first date from end on
 pub record MovedOn (p₀ p : Place) (end : ℕ) : Type 0 where
-  pub kept : p ≡ record p₀ { next = p.next }
+  pub kept : p ≡ at_date p₀ p.next
   pub fit : Fit p end
-  pub same : (I : ℕ) → end ≤ I → is_date p.next p.step I ≡ is_date p₀.next p₀.step I
+  pub same : (I : ℕ) → end ≤ I → is_date p I ≡ is_date p₀ I
 
 -- a place's dates from base on and below base + len are added, and it has moved on
 pub record Added (due₀ due : List ℕ) (p₀ p : Place) (base len : ℕ) : Type 0 where
-  pub each : (y : ℕ) → y < len → get_or due y 0 ≡ get_or due₀ y 0 + part p₀.next p₀.step p₀.cost (base + y)
+  pub each : (y : ℕ) → y < len → get_or due y 0 ≡ get_or due₀ y 0 + part p₀ (base + y)
   pub rest : (y : ℕ) → len ≤ y → get_or due y 0 ≡ get_or due₀ y 0
   pub moved : MovedOn p₀ p (base + len)
 

@@ -9,7 +9,7 @@ ghost use Rattle.exact_test.specs.Segments.{verdict_of};
 use crate::segments::{Compared, Segment, TICKS, WORDS};
 use model::elements::PLACES;
 use model::{Element, LegalSet, Verdict};
-use places::columns::{NONE_LEFT, Place, place_of};
+use places::columns::{Place, place_of};
 
 // The elements' places, from their first dates on.
 fn lay_out(elements: &[Element], places: &mut [Place])
@@ -27,8 +27,8 @@ fn compare_segments(set: LegalSet, bound: u64) -> Result<Compared, Verdict>
     ensures { verdict_of result ≡ comparing set.entry.elements.now Overrun (lengths_below set.entry.elements.now bound) }
 {
     let mut table = [Place {
-        next: NONE_LEFT,
-        step: 1,
+        next: 0,
+        step: 0,
         cost: 0,
     }; PLACES];
     let places = &mut table[..set.elements.len()];

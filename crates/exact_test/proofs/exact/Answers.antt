@@ -25,7 +25,7 @@ pub overflow_add-first : goal.overflow_add-first
 overflow_add-first c = omega (arith, bound (goal.at.overflow_add-first c).In-AtMostOne)
 
 pub compare_lengths-requires : goal.compare_lengths-requires
-compare_lengths-requires c = bound (goal.at.compare_lengths-requires c).In-AtMostOne
+compare_lengths-requires c = omega (arith, bound (goal.at.compare_lengths-requires c).In-AtMostOne)
 
 pub returns-in-Refused : goal.returns-in-Refused
 returns-in-Refused c = exact_refused _ (load_tells _ _ (sym c.in-Refused.is ∙ c.load_of.ensures))
