@@ -5,22 +5,27 @@ use mathlib.Core.List.{List}
 use native.Mathlib.Decide.{ℕ_discrete}
 use native.Mathlib.Omega.{arith}
 use lib.Bits.{bit_or, or_lt}
-use lib.Pow.{pow-lt}
+use mir.Syntax.{w64}
+use Rattle.std.proofs.lemmas.Nat.Bits.{bit_at_set_same, bit_at_set_other}
 use lib.ListN.{get_or, set, length-set}
 use lib.Seq.{get_or-set_same, get_or-set_other}
 use Rattle.places.specs.Columns.{most_bound}
 use Rattle.places.specs.declared.columns.Place.{Place}
 use Rattle.exact_test.specs.Segments.{is_date, at_date, ticks, most_next, IsWord, part, Marked, Fit, Added}
-use Rattle.exact_test.proofs.BitLaws.{or_set, or_keep, or_one, sign_some}
+use Rattle.exact_test.proofs.BitLaws.{or_one, sign_some}
 use Rattle.exact_test.proofs.DateLaws.{date_next}
 use Rattle.exact_test.proofs.SegmentLaws.{part_most, part_here, part_before}
 
+-- 1 << k
+abbrev one_at : ℕ → ℕ
+one_at k = 1 * 2 ^ k % 2 ^ 64
+
 -- the words with the mark of the entry j
 abbrev marks_with : List ℕ → ℕ → List ℕ
-marks_with marks j = set marks (j / 64) (bit_or (get_or marks (j / 64) 0) (2 ^ (j % 64)))
+marks_with marks j = set marks (j / 64) (bit_or (get_or marks (j / 64) 0) (one_at (j % 64)))
 
 abbrev seen_with : ℕ → ℕ → ℕ
-seen_with seen j = bit_or seen (2 ^ (j / 64))
+seen_with seen j = bit_or seen (one_at (j / 64))
 
 -- the entry j has something, and its mark
 mark :
@@ -36,32 +41,32 @@ mark due marks seen j v l p m =
       fits = λ k.
           elim (ℕ_discrete k (j / 64)) [
             | yes e ↦
-                rw (e, get_or-set_same marks (j / 64) (bit_or (get_or marks (j / 64) 0) (2 ^ (j % 64))) 0 (omega arith))
-                (or_lt 64 (get_or marks (j / 64) 0) (2 ^ (j % 64)) (m.fits (j / 64)) (pow-lt {j = 64} (omega arith)))
-            | no q ↦ rw (get_or-set_other marks (j / 64) k (bit_or (get_or marks (j / 64) 0) (2 ^ (j % 64))) 0 q) (m.fits k)
+                rw (e, get_or-set_same marks (j / 64) (bit_or (get_or marks (j / 64) 0) (one_at (j % 64))) 0 (omega arith))
+                (or_lt 64 (get_or marks (j / 64) 0) (one_at (j % 64)) (m.fits (j / 64)) (omega arith))
+            | no q ↦ rw (get_or-set_other marks (j / 64) k (bit_or (get_or marks (j / 64) 0) (one_at (j % 64))) 0 q) (m.fits k)
           ];
       bits = λ k i hk hi.
           elim (ℕ_discrete (k * 64 + i) j) [
             | yes e ↦
                 let ek : j / 64 ≡ k = omega arith in
                 let ei : j % 64 ≡ i = omega arith in
-                rw (e, ek, ei, get_or-set_same due j v 0 (omega arith), get_or-set_same marks k (bit_or (get_or marks k 0) (2 ^ i)) 0 (omega arith))
-                (or_set (get_or marks k 0) i ∙ sym (sign_some v p))
+                rw (e, ek, ei, get_or-set_same due j v 0 (omega arith), get_or-set_same marks k (bit_or (get_or marks k 0) (one_at i)) 0 (omega arith))
+                (bit_at_set_same w64 (get_or marks k 0) i hi ∙ sym (sign_some v p))
             | no n ↦
                 rw (get_or-set_other due j (k * 64 + i) v 0 n)
                 (elim (ℕ_discrete k (j / 64)) [
                   | yes e ↦
                       let ni : i ≡ j % 64 → ⊥ = λ q. n (omega arith) in
-                      rw (← e, get_or-set_same marks k (bit_or (get_or marks k 0) (2 ^ (j % 64))) 0 (omega arith))
-                      (or_keep (get_or marks k 0) i (j % 64) ni ∙ m.bits k i hk hi)
+                      rw (← e, get_or-set_same marks k (bit_or (get_or marks k 0) (one_at (j % 64))) 0 (omega arith))
+                      (bit_at_set_other w64 (get_or marks k 0) (j % 64) (omega arith) i ni ∙ m.bits k i hk hi)
                   | no q ↦
-                      rw (get_or-set_other marks (j / 64) k (bit_or (get_or marks (j / 64) 0) (2 ^ (j % 64))) 0 q) (m.bits k i hk hi)
+                      rw (get_or-set_other marks (j / 64) k (bit_or (get_or marks (j / 64) 0) (one_at (j % 64))) 0 q) (m.bits k i hk hi)
                 ])
           ];
       words = λ k i hk hi h.
           elim (ℕ_discrete (k * 64 + i) j) [
-            | yes e ↦ let ek : j / 64 ≡ k = omega arith in rw ek (or_set seen k)
-            | no n ↦ or_one seen k (j / 64) (m.words k i hk hi (rw (get_or-set_other due j (k * 64 + i) v 0 n) at h))
+            | yes e ↦ let ek : j / 64 ≡ k = omega arith in rw ek (bit_at_set_same w64 seen k hk)
+            | no n ↦ or_one seen (one_at (j / 64)) k (m.words k i hk hi (rw (get_or-set_other due j (k * 64 + i) v 0 n) at h))
           ];
     }
 

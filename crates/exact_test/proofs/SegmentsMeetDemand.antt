@@ -10,6 +10,7 @@ use lib.Dec.{ltb}
 use lib.ListN.{length, get_or, replicate, length-replicate}
 use borrow.Author.Tests.{lt-ltb}
 use Rattle.std.proofs.lemmas.List.{get_or-map}
+use Rattle.std.proofs.lemmas.Nat.Bits.{bit_at-zero}
 use Rattle.model.specs.declared.elements.Element.{Element}
 use Rattle.model.specs.Over.{sum_over, some_over, Each}
 use Rattle.model.specs.Elements.{most_cost, places, AllLegal, filler}
@@ -22,7 +23,6 @@ use Rattle.places.specs.declared.columns.Place.{Place}
 use Rattle.places.specs.Columns.{most_bound, place_of}
 use Rattle.places.proofs.ColumnLaws.{step_within}
 use Rattle.exact_test.specs.Segments.{is_date, ticks, due_of, place_at, Marked, Fit, Addable, Full, total, Zero}
-use Rattle.exact_test.proofs.BitLaws.{bit_zero}
 use Rattle.exact_test.proofs.DateLaws.{test_date}
 use Rattle.exact_test.proofs.SegmentLaws.{due_most, total_most}
 
@@ -38,7 +38,7 @@ none_marked =
       due_long = length-replicate {A = ℕ} ticks 0;
       marks_long = length-replicate {A = ℕ} 64 0;
       fits = λ k. omega (arith, none_zero 64 k);
-      bits = λ k i h l. rw (none_zero 64 k, none_zero ticks (k * 64 + i)) (bit_zero i);
+      bits = λ k i h l. rw (none_zero 64 k, none_zero ticks (k * 64 + i)) (bit_at-zero i);
       words = λ k i h l p. absurd (omega (arith, none_zero ticks (k * 64 + i)));
     }
 

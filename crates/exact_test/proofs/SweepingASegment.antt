@@ -11,13 +11,11 @@ use lib.Seq.{get_or-set_same, get_or-set_other}
 use Rattle.std.specs.Prelude.{Ok, Err}
 use Rattle.std.proofs.lemmas.List.{set-set, set-get_or}
 use Rattle.exact_test.specs.declared.segments.Compared.{Compared}
-use Rattle.exact_test.specs.Segments.{ticks, IsWord, bit, sign, Covers, Marked, with_due, overrun_at, sweep_of, total, Zero}
-use Rattle.exact_test.proofs.BitLaws.{bit_zero, zeros_below, zeros_lt, zeros_at, cleared, clear_keep, clear_at, clear_lt, some_sign, none_sign}
+use Rattle.exact_test.specs.Segments.{ticks, IsWord, sign, Covers, Marked, with_due, overrun_at, sweep_of, total, Zero}
+use Rattle.std.specs.Int.{bit_at}
+use Rattle.std.proofs.lemmas.Nat.Bits.{bit_at-zero}
+use Rattle.exact_test.proofs.BitLaws.{lowest, cleared, lowest_is, clear_keep, clear_at, clear_lt, some_sign, none_sign}
 use Rattle.exact_test.proofs.SegmentLaws.{IsFirst, total_taken, sweep_clean, sweep_late, sweep_next}
-
--- the lowest bit of w
-abbrev pub lowest : ℕ → ℕ
-lowest w = count_trailing_zeros 64 w
 
 -- the entry of the lowest mark in w, of the word k
 abbrev pub entry_of : ℕ → ℕ → ℕ
@@ -38,20 +36,20 @@ pub record Word (due marks : List ℕ) (seen words k w : ℕ) : Type 0 where
   pub inside : k < 64
   pub none : get_or marks k 0 ≡ 0
   pub low : (l i : ℕ) → l < k → i < 64 → get_or due (l * 64 + i) 0 ≡ 0
-  pub rest : (l i : ℕ) → l < 64 → i < 64 → (l ≡ k → ⊥) → 0 < get_or due (l * 64 + i) 0 → bit words l ≡ 1
+  pub rest : (l i : ℕ) → l < 64 → i < 64 → (l ≡ k → ⊥) → 0 < get_or due (l * 64 + i) 0 → bit_at words l ≡ 1
 
 module _ {due marks : List ℕ} {seen : ℕ} (m : Marked due marks seen) where
   open_word :
       (words : ℕ) → Covers due words → 0 < words → IsWord words →
       Word due (set marks (lowest words) 0) seen (cleared words) (lowest words) (get_or marks (lowest words) 0)
   open_word words covers p f =
-      let within = zeros_lt 64 words p f in
+      let l = lowest_is p f in
       record {
         marked = rw (set-set marks (lowest words) 0 (get_or marks (lowest words) 0), set-get_or marks (lowest words) 0) m;
-        inside = within;
-        none = get_or-set_same marks (lowest words) 0 0 (omega (arith, m.marks_long));
-        low = λ l i a b. never (get_or due (l * 64 + i) 0) (λ h. omega (arith, zeros_below 64 words l a, covers l i (omega arith) b h));
-        rest = λ l i a b n h. clear_keep 64 words l p f n ∙ covers l i a b h;
+        inside = l.0;
+        none = get_or-set_same marks (lowest words) 0 0 (omega (arith, l.0, m.marks_long));
+        low = λ k i a b. never (get_or due (k * 64 + i) 0) (λ h. omega (arith, l.2 k a, covers k i (omega arith) b h));
+        rest = λ k i a b n h. clear_keep p f k n ∙ covers k i a b h;
       }
 
   -- the entry of the lowest mark of the word k is taken, and the mark as well
@@ -59,7 +57,7 @@ module _ {due marks : List ℕ} {seen : ℕ} (m : Marked due marks seen) where
   unmark k inside p =
       let w = get_or marks k 0 in
       let e = entry_of k w in
-      let below = zeros_lt 64 w p (m.fits k) in
+      let below = (lowest_is p (m.fits k)).0 in
       let here = get_or-set_same marks k (cleared w) 0 (omega (arith, m.marks_long)) in
       record {
         due_long = length-set due e 0 ∙ m.due_long;
@@ -74,10 +72,10 @@ module _ {due marks : List ℕ} {seen : ℕ} (m : Marked due marks seen) where
               | yes q ↦
                   rw (q, here)
                   (elim (ℕ_discrete i (lowest w)) [
-                    | yes r ↦ rw (r, get_or-set_same due e 0 0 (omega (arith, m.due_long))) (clear_at 64 w p (m.fits k))
+                    | yes r ↦ rw (r, get_or-set_same due e 0 0 (omega (arith, m.due_long))) (clear_at p (m.fits k))
                     | no n ↦
                         rw (get_or-set_other due e (k * 64 + i) 0 0 (λ r. n (omega arith)))
-                        (clear_keep 64 w i p (m.fits k) n ∙ m.bits k i inside b)
+                        (clear_keep p (m.fits k) i n ∙ m.bits k i inside b)
                   ])
               | no n ↦
                   rw (get_or-set_other marks k l (cleared w) 0 n, get_or-set_other due e (l * 64 + i) 0 0 (λ r. n (omega arith)))
@@ -97,13 +95,13 @@ module _ {due marks : List ℕ} {seen words k w : ℕ} (v : Word due marks seen 
   small : IsWord w
   small = rw here at (v.marked.fits k)
 
-  mark_of : (i : ℕ) → i < 64 → bit w i ≡ sign (get_or due (k * 64 + i) 0)
+  mark_of : (i : ℕ) → i < 64 → bit_at w i ≡ sign (get_or due (k * 64 + i) 0)
   mark_of i b = rw here at (v.marked.bits k i v.inside b)
 
   close_word : w ≡ 0 → Marked due marks seen × Covers due words
   close_word e =
       let z : (i : ℕ) → i < 64 → sign (get_or due (k * 64 + i) 0) ≡ 0 =
-      λ i b. sym (mark_of i b) ∙ ap (λ y. bit y i) e ∙ bit_zero i in
+      λ i b. sym (mark_of i b) ∙ ap (λ y. bit_at y i) e ∙ bit_at-zero i in
       let back : set marks k w ≡ marks = ap (set marks k) (e ∙ sym v.none) ∙ set-get_or marks k 0 in (
         rw back at v.marked,
         λ l i a b h.
@@ -114,31 +112,31 @@ module _ {due marks : List ℕ} {seen words k w : ℕ} (v : Word due marks seen 
       )
 
   module _ (p : 0 < w) where
-    bit_inside : lowest w < 64
-    bit_inside = zeros_lt 64 w p small
+    l : (lowest w < 64) × (bit_at w (lowest w) ≡ 1) × ((i : ℕ) → i < lowest w → bit_at w i ≡ 0)
+    l = lowest_is p small
 
     -- the lowest mark is that of the first entry
     mark_first : IsFirst due (entry_of k w)
     mark_first =
         record {
-          within = omega (arith, bit_inside, v.inside, v.marked.due_long);
-          some = some_sign (get_or due (entry_of k w) 0) (sym (mark_of (lowest w) bit_inside) ∙ zeros_at 64 w bit_inside);
+          within = omega (arith, l.0, v.inside, v.marked.due_long);
+          some = some_sign (get_or due (entry_of k w) 0) (sym (mark_of (lowest w) l.0) ∙ l.1);
           before = λ y h.
               let e : y / 64 * 64 + y % 64 ≡ y = omega arith in
-              let below = bit_inside in
+              let below = l.0 in
               elim (dec_lt (y / 64) k) [
                 | yes a ↦ rw e at (v.low (y / 64) (y % 64) a (omega arith))
                 | no a ↦
                     let q : y / 64 ≡ k = omega arith in
                     let s : k * 64 + y % 64 ≡ y = omega arith in
-                    let b = sym (mark_of (y % 64) (omega arith)) ∙ zeros_below 64 w (y % 64) (omega arith) in
+                    let b = sym (mark_of (y % 64) (omega arith)) ∙ l.2 (y % 64) (omega arith) in
                     rw s at (none_sign (get_or due (k * 64 + y % 64) 0) b)
               ];
         }
 
     next_word : Word (set due (entry_of k w) 0) marks seen words k (cleared w)
     next_word =
-        let below = bit_inside in
+        let below = l.0 in
         record {
           marked = rw (here, set-set marks k w (cleared w)) at (unmark v.marked k v.inside (rw here p));
           inside = v.inside;
@@ -152,7 +150,7 @@ nothing_left due long covers y =
     elim (dec_lt y ticks) [
       | yes h ↦
           let e : y / 64 * 64 + y % 64 ≡ y = omega arith in
-          never (get_or due y 0) (λ p. omega (arith, bit_zero (y / 64), covers (y / 64) (y % 64) (omega arith) (omega arith) (rw e p)))
+          never (get_or due y 0) (λ p. omega (arith, bit_at-zero (y / 64), covers (y / 64) (y % 64) (omega arith) (omega arith) (rw e p)))
       | no h ↦ get_or-eq_default due 0 (omega (arith, long))
     ]
 

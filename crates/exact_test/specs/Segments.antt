@@ -1,5 +1,6 @@
 -- A segment of lengths: what its entries and their marks hold, and what taking them in rising order comes to.
-use Rattle.std.specs.Prelude.{ℕ, zero, suc, ◌+◌, ◌-◌, ◌*◌, ◌/◌, ◌%◌, ◌≤◌, ◌<◌, ◌≡◌, Bool, ◌&&◌, cond, List, [], ◌∷◌, Result, Ok, Err, leb, ltb, eqb, length, get_or}
+use Rattle.std.specs.Prelude.{ℕ, zero, suc, ◌+◌, ◌-◌, ◌*◌, ◌%◌, ◌≤◌, ◌<◌, ◌≡◌, Bool, ◌&&◌, cond, List, [], ◌∷◌, Result, Ok, Err, leb, ltb, eqb, length, get_or}
+use Rattle.std.specs.Int.{bit_at}
 use Rattle.model.specs.declared.answers.Verdict.{Verdict}
 use Rattle.model.specs.declared.answers.Verdict.TheVariants.{Passes, Overrun}
 use Rattle.model.specs.Over.{sum_over}
@@ -20,11 +21,6 @@ most_next = 4294967296
 abbrev pub IsWord : ℕ → Type 0
 IsWord x = x < 18446744073709551616
 
--- the bit i of w
-unfoldable pub bit : ℕ → ℕ → ℕ
-bit w zero = w % 2
-bit w (suc i) = bit (w / 2) i
-
 -- 1 where there is something, else 0
 abbrev pub sign : ℕ → ℕ
 sign zero = 0
@@ -44,14 +40,14 @@ due_of places I = sum_over places (λ p. part p I)
 
 -- seen has the bit k where due has something in the word k: at some k * 64 + i
 abbrev pub Covers : List ℕ → ℕ → Type 0
-Covers due seen = (k i : ℕ) → k < 64 → i < 64 → 0 < get_or due (k * 64 + i) 0 → bit seen k ≡ 1
+Covers due seen = (k i : ℕ) → k < 64 → i < 64 → 0 < get_or due (k * 64 + i) 0 → bit_at seen k ≡ 1
 
 -- the word k of marks has the bit i exactly where due has something at k * 64 + i, and seen covers due
 pub record Marked (due marks : List ℕ) (seen : ℕ) : Type 0 where
   pub due_long : length due ≡ ticks
   pub marks_long : length marks ≡ 64
   pub fits : (k : ℕ) → IsWord (get_or marks k 0)
-  pub bits : (k i : ℕ) → k < 64 → i < 64 → bit (get_or marks k 0) i ≡ sign (get_or due (k * 64 + i) 0)
+  pub bits : (k i : ℕ) → k < 64 → i < 64 → bit_at (get_or marks k 0) i ≡ sign (get_or due (k * 64 + i) 0)
   pub words : Covers due seen
 
 -- a place that can be added from base on

@@ -1,5 +1,4 @@
-use Rattle.std.proofs.Common.{arith, ◌/◌, ◌%◌}
-use Rattle.exact_test.proofs.BitLaws.{shifted}
+use Rattle.std.proofs.Common.{arith}
 use Rattle.exact_test.proofs.AddingDates.{start, room, next, end}
 use Rattle.exact_test.proofs.segments.Segment.add_dates.Goals as goal
 
@@ -10,10 +9,7 @@ pub overflow_add-self : goal.overflow_add-self
 overflow_add-self c = let p = c.requires in omega (arith, room c.loop-j.invariant p.fit p.len_fits.0 c.loop-j-test.true p.sums_fit)
 
 pub loop-j-preserved : goal.loop-j-preserved
-loop-j-preserved c =
-    let p = c.requires in
-    let j = c.loop-j.j in
-    rw (shifted (j % 64) (omega arith), shifted (j / 64) (omega arith)) (next c.loop-j.invariant p.fit p.len_fits.0 c.loop-j-test.true p.len_fits.1)
+loop-j-preserved c = let p = c.requires in next c.loop-j.invariant p.fit p.len_fits.0 c.loop-j-test.true p.len_fits.1
 
 pub returns : goal.returns
 returns c = end c.loop-j.invariant c.requires.fit c.loop-j-test.false
