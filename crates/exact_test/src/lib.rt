@@ -8,7 +8,7 @@ mod segments;
 
 use lengths::compare_lengths;
 use load::{Loaded, load_of};
-use model::{Answer, TaskSet};
+use model::{Answer, LegalSet, TaskSet};
 
 // A refusal by 3 to 8, or the verdict: the test lengths below F + H are compared.
 pub fn exact(set: TaskSet) -> Answer
@@ -21,6 +21,11 @@ pub fn exact(set: TaskSet) -> Answer
             first,
             hyperperiod,
             load: _,
-        } => Answer::Given(compare_lengths(set, first + hyperperiod)),
+        } => {
+            let legal = LegalSet {
+                elements: set.counted(),
+            };
+            Answer::Given(compare_lengths(legal, first + hyperperiod))
+        }
     }
 }

@@ -1,5 +1,4 @@
 use Rattle.std.proofs.Common.{arith, ◌+◌, ◌≤◌, sym, ◌∙◌}
-use Rattle.model.proofs.TurnedAwayLaws.{set_fine}
 use Rattle.theory.proofs.SizeLaws.{first_small}
 use Rattle.theory.proofs.TakenSetsAreLegal.{fine_is_legal}
 use Rattle.theory.proofs.AnswerLaws.{exact_refused, exact_overload, exact_compared}
@@ -16,11 +15,17 @@ tells c = load_tells _ _ (sym c.in-AtMostOne.is ∙ c.load_of.ensures)
 bound : (c : In-AtMostOne) → c.in-AtMostOne.first + c.in-AtMostOne.hyperperiod ≤ most_bound
 bound c = let k = tells c in omega (arith, k.1, k.2, k.4, first_small _ (fine_is_legal _ k.0).0)
 
+pub invariant_of-legal-clause-legal : goal.invariant_of-legal-clause-legal
+invariant_of-legal-clause-legal c = rw c.counted.ensures (fine_is_legal _ (tells (goal.at.invariant_of-legal-clause-legal c).In-AtMostOne).0).0
+
+pub invariant_of-legal-clause-few : goal.invariant_of-legal-clause-few
+invariant_of-legal-clause-few c = rw c.counted.ensures (fine_is_legal _ (tells (goal.at.invariant_of-legal-clause-few c).In-AtMostOne).0).1
+
 pub overflow_add-first : goal.overflow_add-first
-overflow_add-first c = omega (arith, bound c)
+overflow_add-first c = omega (arith, bound (goal.at.overflow_add-first c).In-AtMostOne)
 
 pub compare_lengths-requires : goal.compare_lengths-requires
-compare_lengths-requires c = record { legal = (set_fine _).0 (tells c).0; bound_small = omega (arith, bound c) }
+compare_lengths-requires c = omega (arith, bound (goal.at.compare_lengths-requires c).In-AtMostOne)
 
 pub returns-in-Refused : goal.returns-in-Refused
 returns-in-Refused c = exact_refused _ (load_tells _ _ (sym c.in-Refused.is ∙ c.load_of.ensures))
@@ -33,4 +38,4 @@ returns-in-AboveOne c =
 pub returns-in-AtMostOne : goal.returns-in-AtMostOne
 returns-in-AtMostOne c =
     let k = tells (goal.at.returns-in-AtMostOne c).In-AtMostOne in
-    rw c.compare_lengths.ensures (exact_compared _ k.0 k.4 k.5 _ (omega (arith, k.1, k.2)))
+    rw (c.compare_lengths.ensures, c.counted.ensures) (exact_compared _ k.0 k.4 k.5 _ (omega (arith, k.1, k.2)))
