@@ -1,25 +1,15 @@
 // The test lengths below a bound, compared segment by segment.
-ghost use Rattle.std.specs.Prelude.{◌≤◌, ◌≡◌, length, map};
+ghost use Rattle.std.specs.Prelude.{◌≤◌, ◌≡◌};
 ghost use Rattle.model.specs.ExactTest.{comparing};
 ghost use Rattle.model.specs.declared.answers.Verdict.TheVariants.{Overrun};
 ghost use Rattle.theory.specs.TestLengths.{lengths_below};
-ghost use Rattle.places.specs.Columns.{most_bound, place_of};
+ghost use Rattle.places.specs.Columns.{most_bound};
 ghost use Rattle.exact_test.specs.Segments.{verdict_of};
 
 use crate::segments::{Compared, Segment, TICKS, WORDS};
 use model::elements::PLACES;
-use model::{Element, LegalSet, Verdict};
-use places::columns::{Place, place_of};
-
-// The elements' places, from their first dates on.
-fn lay_out(elements: &[Element], places: &mut [Place])
-    requires { length places.old ≡ length elements.now }
-    ensures { places.new ≡ map place_of elements.now }
-{
-    for (i, e) in elements.iter().enumerate() {
-        places[i] = place_of(*e);
-    }
-}
+use model::{LegalSet, Verdict};
+use places::columns::{Place, lay};
 
 // The costs due are added up in a segment of lengths, and swept in rising order.
 fn compare_segments(set: LegalSet, bound: u64) -> Result<Compared, Verdict>
@@ -32,7 +22,7 @@ fn compare_segments(set: LegalSet, bound: u64) -> Result<Compared, Verdict>
         cost: 0,
     }; PLACES];
     let places = &mut table[..set.elements.len()];
-    lay_out(set.elements, places);
+    lay(set.elements, places);
     let mut segment = Segment {
         due: [0; TICKS],
         marks: [0; WORDS],

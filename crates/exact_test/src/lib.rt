@@ -8,24 +8,24 @@ mod segments;
 
 use lengths::compare_lengths;
 use load::{Loaded, load_of};
-use model::{Answer, LegalSet, TaskSet};
+use model::{LegalSet, Refusal, TaskSet, Verdict};
 
 // A refusal by 3 to 8, or the verdict: the test lengths below F + H are compared.
-pub fn exact(set: TaskSet) -> Answer
+pub fn exact(set: TaskSet) -> Result<Verdict, Refusal>
     ensures { ExactSays set result }
 {
-    match load_of(set) {
-        Loaded::Refused(r) => Answer::Refused(r),
-        Loaded::AboveOne(verdict) => Answer::Given(verdict),
+    let loaded = load_of(set)?;
+    match loaded {
+        Loaded::AboveOne(verdict) => Ok(verdict),
         Loaded::AtMostOne {
             first,
             hyperperiod,
-            load: _,
+            ..
         } => {
             let legal = LegalSet {
                 elements: set.counted(),
             };
-            Answer::Given(compare_lengths(legal, first + hyperperiod))
+            Ok(compare_lengths(legal, first + hyperperiod))
         }
     }
 }
