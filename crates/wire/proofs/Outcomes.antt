@@ -6,10 +6,8 @@ use denote.Ref.{Bor}
 use Rattle.model.specs.Promises.{Promises}
 use Rattle.model.specs.declared.elements.TaskSet.{TaskSet}
 use Rattle.model.specs.declared.answers.Check.{Check}
-use Rattle.wire.specs.declared.records.Record.{Record}
-use Rattle.wire.specs.declared.reading.ReadSet.{ReadSet}
-use Rattle.wire.specs.Reading.{IsRest}
-use Rattle.wire.specs.FunctionContracts.{ReadRecordSays, ReadSetSays, ReadIntoSays}
+use Rattle.wire.specs.Reading.{Record, IsRest}
+use Rattle.wire.specs.FunctionContracts.{ReadRecordSays, ReadSetSays}
 use Rattle.wire.specs.contracts
 use Rattle.wire.proofs.records
 use Rattle.wire.proofs.reading
@@ -25,14 +23,9 @@ pub rest_keeps :
 rest_keeps = record { met = λ M. records.rest.Met.met }
 
 pub read_set_keeps :
-    Promises contracts.reading.read_set.ended reading.read_set.Symbol.code reading.read_set.Symbol.name
-    (λ κs given r after. ReadSetSays given.0.now r)
-read_set_keeps = record { met = λ M. reading.read_set.Met.met }
-
-pub read_into_keeps :
     Promises contracts.reading.read_into.ended reading.read_into.Symbol.code reading.read_into.Symbol.name
-    (λ κs given r after. ReadIntoSays given.0.now r after.1.0.now)
-read_into_keeps = record { met = λ M. reading.read_into.Met.met }
+    (λ κs given r after. ReadSetSays given.0.now r after.1.0.now)
+read_set_keeps = record { met = λ M. reading.read_into.Met.met }
 
 -- NO TWO OUTCOMES
 pub record_is_decided : (s : List ℕ) (a b : Record) → ReadRecordSays s a → ReadRecordSays s b → a ≡ b
@@ -41,9 +34,6 @@ record_is_decided s a b p q = p ∙ sym q
 pub rest_is_decided : (s a b : Bor (List ℕ)) → IsRest s a → IsRest s b → (a.now ≡ b.now) × (a.ref_ptr ≡ b.ref_ptr)
 rest_is_decided s a b p q = (p.bytes ∙ sym q.bytes, p.part ∙ sym q.part)
 
-pub read_is_decided : (s : List ℕ) (a b : ReadSet) → ReadSetSays s a → ReadSetSays s b → a ≡ b
-read_is_decided s a b p q = p ∙ sym q
-
-pub lent_set_is_decided :
-    (s : List ℕ) (a b : Check) (t u : TaskSet) → ReadIntoSays s a t → ReadIntoSays s b u → (a ≡ b) × (t ≡ u)
-lent_set_is_decided s a b t u p q = (p.0 ∙ sym q.0, p.1 ∙ sym q.1)
+pub read_is_decided :
+    (s : List ℕ) (a b : Check) (t u : TaskSet) → ReadSetSays s a t → ReadSetSays s b u → (a ≡ b) × (t ≡ u)
+read_is_decided s a b t u p q = (p.0 ∙ sym q.0, p.1 ∙ sym q.1)

@@ -5,5 +5,5 @@ mod numbers;
 pub mod reading;
 pub mod records;
 
-pub use reading::{ReadSet, read_into, read_set};
-pub use records::{Record, read_record, rest};
+pub use reading::read_into;
+pub use records::{read_record, rest};

@@ -2,7 +2,7 @@
 ghost use Rattle.std.specs.Prelude.{◌≡◌, true, cond, suc, ◌≤◌, eqb, length};
 ghost use Rattle.model.specs.declared.elements.Period.TheVariants.{Once, Every};
 ghost use Rattle.wire.specs.Format.{kind_of, is_kind, body_size, record_size, element_of};
-ghost use Rattle.wire.specs.Reading.{answer_of, read_next, IsRest};
+ghost use Rattle.wire.specs.Reading.{read_next, read_record, bytes_taken, IsRest};
 ghost use Rattle.wire.specs.FunctionContracts.{ReadRecordSays};
 
 use crate::numbers::number_at;
@@ -10,26 +10,10 @@ use model::checks::check_element;
 use model::elements::PLACES;
 use model::{Check, Element, Period, Refusal};
 
-#[derive(Clone, Copy)]
-pub enum Record {
-    Element(Element),
-    Refused(Refusal),
-    End,
-}
-
-fn refused(number: u32, place: usize) -> Record
-    ensures { result ≡ Record.Refused (record { number = number; place = place }) }
+fn refused(number: u32, place: usize) -> Result<Option<Element>, Refusal>
+    ensures { result ≡ Err (record { number = number; place = place }) }
 {
-    Record::Refused(Refusal { number, place })
-}
-
-fn answer_of(check: Check, e: Element) -> Record
-    ensures { result ≡ answer_of check e }
-{
-    match check {
-        Check::Fine => Record::Element(e),
-        Check::TurnedAway(r) => Record::Refused(r),
-    }
+    Err(Refusal { number, place })
 }
 
 #[tactic(auto, unfolding(crate::specs::Format::is_kind))]
@@ -84,11 +68,11 @@ fn element_of(bytes: &[u8]) -> Element
 
 // What the bytes start with, at this place of the whole input; room is how many elements may still come.
 #[tactic(auto, unfolding(crate::specs::Format::record_size, crate::specs::Reading::no_bytes, model::specs::TurnedAway::unless, crate::specs::Reading::check_record, crate::specs::Reading::read_next))]
-pub(crate) fn read_next(room: usize, place: usize, bytes: &[u8]) -> Record
+pub(crate) fn read_next(room: usize, place: usize, bytes: &[u8]) -> Result<Option<Element>, Refusal>
     ensures { result ≡ read_next room place bytes.now }
 {
     if bytes.len() == 0 {
-        return Record::End;
+        return Ok(None);
     }
     let kind = bytes[0];
     if !is_kind(kind) {
@@ -101,24 +85,35 @@ pub(crate) fn read_next(room: usize, place: usize, bytes: &[u8]) -> Record
         return refused(3, place);
     }
     let e = element_of(bytes);
-    let check = check_element(place, e);
-    answer_of(check, e)
+    if let Check::TurnedAway(r) = check_element(place, e) {
+        return Err(r);
+    }
+    Ok(Some(e))
 }
 
 #[tactic(auto, unfolding(crate::specs::Reading::read_record))]
-pub fn read_record(bytes: &[u8]) -> Record
+pub fn read_record(bytes: &[u8]) -> Result<Option<Element>, Refusal>
     ensures { ReadRecordSays bytes.now result }
 {
     read_next(PLACES, 0, bytes)
 }
 
+// How many bytes the element's record takes: none where there is no element.
+#[tactic(auto, using(crate::proofs::ReadingLaws::element_some), unfolding(crate::specs::Format::record_size, crate::specs::Reading::bytes_taken))]
+fn bytes_taken(bytes: &[u8]) -> usize
+    ensures { result ≡ bytes_taken (read_record bytes.now) bytes.now }
+{
+    match read_record(bytes) {
+        Ok(Some(_)) => size_of(bytes[0]),
+        Ok(None) | Err(_) => 0,
+    }
+}
+
 // The bytes past the record, as that part of the caller's bytes: all of them where there is no element.
+#[tactic(auto, using(crate::proofs::ReadingLaws::taken_within))]
 pub fn rest(bytes: &[u8]) -> &[u8]
     ensures { IsRest bytes.entry result }
 {
-    let Record::Element(_) = read_record(bytes) else {
-        return bytes;
-    };
-    let taken = size_of(bytes[0]);
+    let taken = bytes_taken(bytes);
     &bytes[taken..]
 }
