@@ -21,9 +21,9 @@ use Rattle.model.specs.TurnedAway.{unless}
 use Rattle.model.proofs.Cases.{test, clash}
 use Rattle.model.proofs.TurnedAwayLaws.{then_fine, unless_fine, element_fine}
 use Rattle.std.specs.Prelude.{Some, None, Ok, Err}
-use Rattle.wire.specs.Format.{kind_of, is_kind, record_size, element_of}
+use Rattle.wire.specs.Format.{byte_of, kind_for, body_size, kind_of, is_kind, record_size, element_of}
 use Rattle.wire.specs.Reading.{Record, check_record, no_bytes, answer_of, read_next, read_record, bytes_taken, rest_of, IsRest, check_records, elements_in, handed_back, read_set}
-use Rattle.wire.proofs.FormatLaws.{some_size}
+use Rattle.wire.proofs.FormatLaws.{some_size, kind_size}
 
 -- NO BYTES, and some
 pub no_bytes_lem : (s : List ℕ) → no_bytes s ≡ true → s ≡ []
@@ -90,8 +90,11 @@ module _ (s : List ℕ) where
   unfolding read_record
   element_told h = (answer_tells places 0 s h).0
 
-  pub element_some : {e : Element} → Ok (Some e) ≡ read_record s → 0 < length s
-  element_some h = omega (arith, some_size s, (element_told (sym h)).whole)
+  pub taken_is : {e : Element} → Ok (Some e) ≡ read_record s → suc (body_size (byte_of (kind_for e.period))) ≡ bytes_taken (read_record s) s
+  unfolding read_record bytes_taken
+  taken_is h =
+      let k = answer_tells places 0 s (sym h) in
+      ap (λ x. suc (body_size (byte_of (kind_for x.period)))) (sym k.2) ∙ kind_size s k.0.kind ∙ ap (λ r. bytes_taken r s) h
 
   pub taken_within : bytes_taken (read_record s) s ≤ length s
   unfolding bytes_taken

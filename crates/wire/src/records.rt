@@ -1,60 +1,36 @@
 // One record: the element, the refusal, or the end; and the unread rest.
 ghost use Rattle.std.specs.Prelude.{◌≡◌, true, cond, suc, ◌≤◌, eqb, length};
 ghost use Rattle.model.specs.declared.elements.Period.TheVariants.{Once, Every};
-ghost use Rattle.wire.specs.Format.{kind_of, is_kind, body_size, record_size, element_of};
+ghost use Rattle.wire.specs.Format.{byte_of, kind_of, is_kind, record_size, element_of};
 ghost use Rattle.wire.specs.Reading.{read_next, read_record, bytes_taken, IsRest};
 ghost use Rattle.wire.specs.FunctionContracts.{ReadRecordSays};
 
+use crate::kinds::Kind;
 use crate::numbers::number_at;
 use model::checks::check_element;
 use model::elements::PLACES;
 use model::{Check, Element, Period, Refusal};
 
-fn refused(number: u32, place: usize) -> Result<Option<Element>, Refusal>
-    ensures { result ≡ Err (record { number = number; place = place }) }
-{
-    Err(Refusal { number, place })
-}
-
-#[tactic(auto, unfolding(crate::specs::Format::is_kind))]
-fn is_kind(kind: u8) -> bool
-    ensures { result ≡ is_kind kind }
-{
-    kind == 1 || kind == 2
-}
-
-// How many bytes a record of this kind has, its kind byte among them.
-#[tactic(auto, unfolding(crate::specs::Format::body_size))]
-fn size_of(kind: u8) -> usize
-    ensures { result ≡ suc (body_size kind) }
-{
-    match kind {
-        1 => 17,
-        2 => 13,
-        _ => 1,
-    }
-}
-
 // A record of either kind has a number behind its kind: the period, or in a single event the offset.
-fn period_of(kind: u8, first: u32) -> Period
-    ensures { result ≡ cond (eqb kind 2) Once (Every first) }
+fn period_of(kind: Kind, first: u32) -> Period
+    ensures { result ≡ cond (eqb (byte_of kind) 2) Once (Every first) }
 {
     match kind {
-        2 => Period::Once,
-        _ => Period::Every(first),
+        Kind::Periodic => Period::Every(first),
+        Kind::Single => Period::Once,
     }
 }
 
-// The element of a record that is there whole. Both kinds are read in one way, with no branch: so the compiler sees that `rest` asks what was asked for the element, and asks once.
+// The element of a record that is there whole: both kinds are read in one way.
 #[tactic(auto, using(crate::proofs::FormatLaws::known_size), unfolding(crate::specs::Format::record_size))]
-fn element_of(bytes: &[u8]) -> Element
-    requires { (is_kind (kind_of bytes.now) ≡ true) × (record_size bytes.now ≤ length bytes.now) }
+fn element_of(kind: Kind, bytes: &[u8]) -> Element
+    requires kind { (byte_of kind ≡ kind_of bytes.now) × (is_kind (kind_of bytes.now) ≡ true) }
+    requires whole { record_size bytes.now ≤ length bytes.now }
     ensures { result ≡ element_of bytes.now }
 {
-    let kind = bytes[0];
     let first = number_at(bytes, 1);
     let period = period_of(kind, first);
-    let at = size_of(kind) - 12;
+    let at = kind.record_size() - 12;
     let offset = number_at(bytes, at);
     let deadline = number_at(bytes, at + 4);
     let cost = number_at(bytes, at + 8);
@@ -68,23 +44,26 @@ fn element_of(bytes: &[u8]) -> Element
 
 // What the bytes start with, at this place of the whole input; room is how many elements may still come.
 #[tactic(auto, unfolding(crate::specs::Format::record_size, crate::specs::Reading::no_bytes, model::specs::TurnedAway::unless, crate::specs::Reading::check_record, crate::specs::Reading::read_next))]
-pub(crate) fn read_next(room: usize, place: usize, bytes: &[u8]) -> Result<Option<Element>, Refusal>
+pub(crate) fn read_next(
+    room: usize,
+    place: usize,
+    bytes: &[u8],
+) -> Result<Option<Element>, Refusal>
     ensures { result ≡ read_next room place bytes.now }
 {
-    if bytes.len() == 0 {
+    if bytes.is_empty() {
         return Ok(None);
     }
-    let kind = bytes[0];
-    if !is_kind(kind) {
-        return refused(1, place);
-    }
-    if bytes.len() < size_of(kind) {
-        return refused(2, place);
+    let Ok(kind) = Kind::try_from(bytes[0]) else {
+        return Err(Refusal { number: 1, place });
+    };
+    if bytes.len() < kind.record_size() {
+        return Err(Refusal { number: 2, place });
     }
     if room < 1 {
-        return refused(3, place);
+        return Err(Refusal { number: 3, place });
     }
-    let e = element_of(bytes);
+    let e = element_of(kind, bytes);
     if let Check::TurnedAway(r) = check_element(place, e) {
         return Err(r);
     }
@@ -99,12 +78,12 @@ pub fn read_record(bytes: &[u8]) -> Result<Option<Element>, Refusal>
 }
 
 // How many bytes the element's record takes: none where there is no element.
-#[tactic(auto, using(crate::proofs::ReadingLaws::element_some), unfolding(crate::specs::Format::record_size, crate::specs::Reading::bytes_taken))]
+#[tactic(auto, using(crate::proofs::ReadingLaws::taken_is), unfolding(crate::specs::Reading::bytes_taken))]
 fn bytes_taken(bytes: &[u8]) -> usize
     ensures { result ≡ bytes_taken (read_record bytes.now) bytes.now }
 {
     match read_record(bytes) {
-        Ok(Some(_)) => size_of(bytes[0]),
+        Ok(Some(e)) => Kind::from(e.period).record_size(),
         Ok(None) | Err(_) => 0,
     }
 }

@@ -10,8 +10,9 @@ returns c =
       c.number_at-cost.ensures,
       c.number_at-deadline.ensures,
       c.number_at-offset.ensures,
-      c.size_of-at.ensures,
+      c.record_size-at.ensures,
       c.period_of-period.ensures,
       c.number_at-first.ensures,
+      c.requires.kind.0,
     )
-    (sym (element_is _ c.requires.0))
+    (sym (element_is _ c.requires.kind.1))

@@ -1,0 +1,63 @@
+// The kinds of a record, and the byte that a record of each begins with.
+ghost use Rattle.std.specs.Prelude.{◌≡◌, suc};
+ghost use Rattle.wire.specs.Format.{byte_of, kind_for, body_size, IsKindOf};
+
+use model::Period;
+
+#[derive(Clone, Copy, PartialEq, Eq)]
+pub enum Kind {
+    Periodic,
+    Single,
+}
+
+// A byte that no record begins with.
+#[derive(Clone, Copy, PartialEq, Eq)]
+pub struct UnknownKind;
+
+impl TryFrom<u8> for Kind {
+    type Error = UnknownKind;
+
+    ghost try_from_gives = { IsKindOf };
+
+    #[tactic(auto, unfolding(crate::specs::Format::is_kind))]
+    fn try_from(byte: u8) -> Result<Kind, UnknownKind> {
+        match byte {
+            1 => Ok(Kind::Periodic),
+            2 => Ok(Kind::Single),
+            _ => Err(UnknownKind),
+        }
+    }
+}
+
+impl From<Period> for Kind {
+    ghost from_gives = { λ period kind. kind ≡ kind_for period };
+
+    fn from(period: Period) -> Kind {
+        match period {
+            Period::Once => Kind::Single,
+            Period::Every(_) => Kind::Periodic,
+        }
+    }
+}
+
+impl Kind {
+    pub fn byte(self) -> u8
+        ensures { result ≡ byte_of self }
+    {
+        match self {
+            Kind::Periodic => 1,
+            Kind::Single => 2,
+        }
+    }
+
+    // How many bytes a record of this kind has, its kind byte among them.
+    #[tactic(auto, unfolding(crate::specs::Format::body_size))]
+    pub(crate) fn record_size(self) -> usize
+        ensures { result ≡ suc (body_size (byte_of self)) }
+    {
+        match self {
+            Kind::Periodic => 17,
+            Kind::Single => 13,
+        }
+    }
+}
