@@ -57,7 +57,7 @@ impl Kind {
 
     // How many bytes a record of this kind has, its kind byte among them.
     #[tactic(auto, unfolding(crate::specs::Format::body_size))]
-    pub(crate) fn record_size(self) -> usize
+    pub fn record_size(self) -> usize
         ensures { result ≡ suc (body_size (byte_of self)) }
     {
         match self {

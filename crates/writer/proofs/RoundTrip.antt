@@ -9,12 +9,11 @@ use Rattle.model.specs.declared.elements.TaskSet.{TaskSet}
 use Rattle.model.specs.declared.answers.Check.TheVariants.{Fine}
 use Rattle.model.specs.Elements.{places, is_legal_set, counted, set_of, Same}
 use Rattle.model.proofs.ElementLaws.{legal_set, set_counted, counted_long}
-use Rattle.writer.specs.declared.writing.Written.{Written}
-use Rattle.writer.specs.declared.writing.Written.TheVariants.{Bytes}
+use Rattle.std.specs.Prelude.{Ok}
 use Rattle.wire.specs.Format.{AllBytes, records_of}
 use Rattle.wire.specs.Reading.{ReadSet, handed_back, read_set}
 use Rattle.wire.specs.FunctionContracts.{ReadSetSays}
-use Rattle.writer.specs.Writing.{bytes_of}
+use Rattle.writer.specs.Writing.{Written, bytes_of}
 use Rattle.writer.specs.FunctionContracts.{WriteSetSays}
 use Rattle.wire.proofs.ReaderIsDecided.{reads_set, read_is_records}
 use Rattle.writer.proofs.WriterIsDecided.{set_is_written, bytes_are_written}
@@ -27,7 +26,7 @@ pub write_then_read :
     (t : TaskSet) (out : List ℕ) (a : Written) (after : List ℕ) (n : ℕ) (r : ReadSet) →
     length t.table ≡ places →
     WriteSetSays t out a after →
-    a ≡ Bytes n →
+    a ≡ Ok n →
     ReadSetSays (take n after) r.check r.set →
     (r ≡ handed_back Fine (set_of (counted t))) × Same (set_of (counted t)) t
 write_then_read t out a after n r long says h read =
@@ -59,7 +58,7 @@ pub read_then_write :
     r.check ≡ Fine →
     length s ≤ length out →
     WriteSetSays r.set out a after →
-    (a ≡ Bytes (length s)) × (after ≡ s ++ drop (length s) out)
+    (a ≡ Ok (length s)) × (after ≡ s ++ drop (length s) out)
 read_then_write s r out a after h read c long says =
     let its = read_has_its_bytes s h (sym read.0 ∙ c) in
     let legal : is_legal_set r.set ≡ true = rw read.1 its.0 in
