@@ -1,6 +1,6 @@
 // The kinds of a record, and the byte that a record of each begins with.
-ghost use Rattle.std.specs.Prelude.{◌≡◌, suc};
-ghost use Rattle.wire.specs.Format.{byte_of, kind_for, body_size, IsKindOf};
+ghost use Rattle.wire.specs.Format.{IsKindOf};
+ghost use Rattle.wire.specs.FunctionContracts.{ByteSays, RecordSizeSays, KindSays};
 
 use model::Period;
 
@@ -35,7 +35,7 @@ impl TryFrom<u8> for Kind {
 }
 
 impl From<Period> for Kind {
-    ghost from_gives = { λ period kind. kind ≡ kind_for period };
+    ghost from_gives = { KindSays };
 
     fn from(period: Period) -> Kind {
         match period {
@@ -47,7 +47,7 @@ impl From<Period> for Kind {
 
 impl Kind {
     pub fn byte(self) -> u8
-        ensures { result ≡ byte_of self }
+        ensures { ByteSays self result }
     {
         match self {
             Kind::Periodic => 1,
@@ -58,7 +58,7 @@ impl Kind {
     // How many bytes a record of this kind has, its kind byte among them.
     #[tactic(auto, unfolding(crate::specs::Format::body_size))]
     pub fn record_size(self) -> usize
-        ensures { result ≡ suc (body_size (byte_of self)) }
+        ensures { RecordSizeSays self result }
     {
         match self {
             Kind::Periodic => 17,
