@@ -1,5 +1,5 @@
 -- Laws of specs/Reading: what a record's answer tells, and what is read from there on. Assumes nothing.
-use Prim.Native.Nat.{ℕ, zero, suc, ◌+◌, ◌-◌, ◌≤◌, ◌<◌}
+use Prim.Native.Nat.{ℕ, zero, suc, ◌+◌, ◌-◌, ◌≤◌}
 use mathlib.Core.Path.{◌≡◌, refl, sym, ap, subst, ◌∙◌}
 use mathlib.Core.Bool.{Bool, true, false, cond}
 use mathlib.Core.List.{List, [], ◌∷◌}
@@ -179,7 +179,7 @@ read_elements s h = rw h
 
 -- A REFUSED READ
 handed_refused : (v : Check) (t : TaskSet) {r : Refusal} → (handed_back v t).check ≡ TurnedAway r → (handed_back v t).set ≡ empty_set
-handed_refused Fine t h = let z : ◌≡◌ {A = ℕ} 0 1 = cc in absurd (omega arith)
+handed_refused Fine t h = cc
 handed_refused (TurnedAway r) t h = refl
 
 pub refused_is_empty : (s : List ℕ) {r : Refusal} → (read_set s).check ≡ TurnedAway r → (read_set s).set ≡ empty_set

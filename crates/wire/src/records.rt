@@ -44,17 +44,13 @@ fn element_of(kind: Kind, bytes: &[u8]) -> Element
 
 // What the bytes start with, at this place of the whole input; room is how many elements may still come.
 #[tactic(auto, unfolding(crate::specs::Format::record_size, crate::specs::Reading::no_bytes, model::specs::TurnedAway::unless, crate::specs::Reading::check_record, crate::specs::Reading::read_next))]
-pub(crate) fn read_next(
-    room: usize,
-    place: usize,
-    bytes: &[u8],
-) -> Result<Option<Element>, Refusal>
+pub(crate) fn read_next(room: usize, place: usize, bytes: &[u8]) -> Result<Option<Element>, Refusal>
     ensures { result ≡ read_next room place bytes.now }
 {
-    if bytes.is_empty() {
+    let Some(&byte) = bytes.first() else {
         return Ok(None);
-    }
-    let Ok(kind) = Kind::try_from(bytes[0]) else {
+    };
+    let Ok(kind) = Kind::try_from(byte) else {
         return Err(Refusal { number: 1, place });
     };
     if bytes.len() < kind.record_size() {
