@@ -30,6 +30,11 @@ abbrev pub kind_for : Period → Kind
 kind_for Once = Single
 kind_for (Every p) = Periodic
 
+-- the period, if this is the number behind the kind
+abbrev pub period_for : Kind → ℕ → Period
+period_for Periodic p = Every p
+period_for Single x = Once
+
 -- "One byte of kind, then a body whose length the kind fixes."
 abbrev pub kind_of : List ℕ → ℕ
 kind_of s = get_or s 0 0

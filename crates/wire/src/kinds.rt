@@ -19,8 +19,8 @@ impl TryFrom<u8> for Kind {
 
     ghost try_from_gives = { IsKindOf };
 
-    #[tactic(auto, unfolding(crate::specs::Format::is_kind))]
     // Chosen with no branch, and by the byte 2: so the compiler sees that `rest` asks what was asked for the element, and asks once.
+    #[tactic(auto, unfolding(crate::specs::Format::is_kind))]
     fn try_from(byte: u8) -> Result<Kind, UnknownKind> {
         let kind = match byte {
             2 => Kind::Single,

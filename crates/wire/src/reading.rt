@@ -1,6 +1,6 @@
 // A set read from bytes.
 ghost use Rattle.std.specs.Prelude.{◌≡◌};
-ghost use Rattle.model.specs.Elements.{empty_set as the_empty_set};
+ghost use Rattle.model.specs.Elements.{empty_set};
 ghost use Rattle.wire.specs.Reading.{check_of, handed_back, read_set};
 ghost use Rattle.wire.specs.FunctionContracts.{ReadSetSays};
 
@@ -10,7 +10,7 @@ use model::{Check, Refusal, TaskSet};
 
 // Reads into an empty set; where a record is refused, the elements before it stand there.
 fn read_elements(bytes: &[u8], set: &mut TaskSet) -> Result<(), Refusal>
-    requires { set.old ≡ the_empty_set }
+    requires { set.old ≡ empty_set }
     ensures { handed_back (check_of result) set.new ≡ read_set bytes.now }
 {
     let mut left = bytes;

@@ -1,7 +1,6 @@
 // One record: the element, the refusal, or the end; and the unread rest.
-ghost use Rattle.std.specs.Prelude.{◌≡◌, true, cond, suc, ◌≤◌, eqb, length};
-ghost use Rattle.model.specs.declared.elements.Period.TheVariants.{Once, Every};
-ghost use Rattle.wire.specs.Format.{byte_of, kind_of, is_kind, record_size, element_of};
+ghost use Rattle.std.specs.Prelude.{◌≡◌, ◌≤◌, length};
+ghost use Rattle.wire.specs.Format.{byte_of, kind_of, period_for, record_size, element_of};
 ghost use Rattle.wire.specs.Reading.{read_next, read_record, bytes_taken, IsRest};
 ghost use Rattle.wire.specs.FunctionContracts.{ReadRecordSays};
 
@@ -13,7 +12,7 @@ use model::{Check, Element, Period, Refusal};
 
 // A record of either kind has a number behind its kind: the period, or in a single event the offset.
 fn period_of(kind: Kind, first: u32) -> Period
-    ensures { result ≡ cond (eqb (byte_of kind) 2) Once (Every first) }
+    ensures { result ≡ period_for kind first }
 {
     match kind {
         Kind::Periodic => Period::Every(first),
@@ -22,9 +21,9 @@ fn period_of(kind: Kind, first: u32) -> Period
 }
 
 // The element of a record that is there whole: both kinds are read in one way.
-#[tactic(auto, using(crate::proofs::FormatLaws::known_size), unfolding(crate::specs::Format::record_size))]
+#[tactic(auto, using(crate::proofs::FormatLaws::kind_is_long), unfolding(crate::specs::Format::record_size))]
 fn element_of(kind: Kind, bytes: &[u8]) -> Element
-    requires kind { (byte_of kind ≡ kind_of bytes.now) × (is_kind (kind_of bytes.now) ≡ true) }
+    requires kind { byte_of kind ≡ kind_of bytes.now }
     requires whole { record_size bytes.now ≤ length bytes.now }
     ensures { result ≡ element_of bytes.now }
 {

@@ -1,10 +1,8 @@
 use Rattle.std.proofs.Common.{sym}
-use Rattle.wire.specs.Format.{record_size}
 use Rattle.wire.proofs.FormatLaws.{element_is}
 use Rattle.wire.proofs.records.element_of.Goals as goal
 
 pub returns : goal.returns
-unfolding record_size
 returns c =
     rw (
       c.number_at-cost.ensures,
@@ -13,6 +11,5 @@ returns c =
       c.record_size-at.ensures,
       c.period_of-period.ensures,
       c.number_at-first.ensures,
-      c.requires.kind.0,
     )
-    (sym (element_is _ c.requires.kind.1))
+    (sym (element_is _ c.args.kind c.requires.kind))
