@@ -8,7 +8,7 @@ use Rattle.model.specs.Elements.{within, is_period, is_offset, is_deadline, is_c
 use Rattle.model.specs.Answers.{Told, told}
 use Rattle.model.specs.TurnedAway.{turned, unless, check_element}
 use Rattle.model.specs.Sums.{every, once, S7}
-use Rattle.wire.specs.declared.records.Record.TheVariants as answer
+use Rattle.std.specs.Prelude.{Some, None, Ok}
 use Rattle.wire.specs.Format.{number_bytes, number_at, is_kind, body_size, record_size, element_of, start_of, record_of, records_of}
 use Rattle.wire.specs.Reading.{check_record, no_bytes, check_of, read_next, read_record, bytes_taken, rest_of, check_records, elements_in, handed_back, read_set}
 
@@ -53,8 +53,8 @@ S12_as_bytes = (refl, refl, refl, refl, refl)
 
 -- one record: the end, the element, and 1, 2, 4 to 7 in that order; a record takes its own bytes and no more
 pub records_in_order :
-    (read_record [] ≡ answer.End)
-    × (read_record (record_of (once 0 1 1) ++ (7 ∷ [])) ≡ answer.Element (once 0 1 1))
+    (read_record [] ≡ Ok None)
+    × (read_record (record_of (once 0 1 1) ++ (7 ∷ [])) ≡ Ok (Some (once 0 1 1)))
     × (rest_of (record_of (once 0 1 1) ++ (7 ∷ [])) ≡ 7 ∷ [])
     × (rest_of (record_of (every 1 0 1 1) ++ (7 ∷ 8 ∷ [])) ≡ 7 ∷ 8 ∷ [])
     × (rest_of (7 ∷ 8 ∷ []) ≡ 7 ∷ 8 ∷ [])

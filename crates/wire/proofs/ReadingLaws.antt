@@ -3,10 +3,8 @@ use Prim.Native.Nat.{ℕ, zero, suc, ◌+◌, ◌-◌, ◌≤◌}
 use mathlib.Core.Path.{◌≡◌, refl, sym, ap, subst, ◌∙◌}
 use mathlib.Core.Bool.{Bool, true, false, cond}
 use mathlib.Core.List.{List, [], ◌∷◌}
-use mathlib.Core.Logic.{◌↔◌, inl, inr, ⊎_elim}
+use mathlib.Core.Logic.{◌↔◌, ⊎_elim}
 use native.Mathlib.Omega.{arith}
-use types.Run.{OneOf}
-use denote.Enum.Declared.{tag_of}
 use denote.Ref.{Bor}
 use lib.Dec.{leb}
 use lib.ListN.{length, take, drop, length-drop}
@@ -22,12 +20,10 @@ use Rattle.model.specs.Elements.{places, is_legal, AllLegal, set_of, empty_set}
 use Rattle.model.specs.TurnedAway.{unless}
 use Rattle.model.proofs.Cases.{test, clash}
 use Rattle.model.proofs.TurnedAwayLaws.{then_fine, unless_fine, element_fine}
-use Rattle.wire.specs.declared.records.Record.{Record}
-use Rattle.wire.specs.declared.records.Record.TheVariants as answer
-use Rattle.wire.specs.Format.{kind_of, is_kind, record_size, element_of}
-use Rattle.wire.specs.Reading.{check_record, no_bytes, answer_of, check_of, read_next, read_record, bytes_taken, rest_of, IsRest, check_records, elements_in, handed_back, read_set}
-use Rattle.wire.specs.contracts.records.Record.{the_type}
-use Rattle.wire.proofs.FormatLaws.{some_size}
+use Rattle.std.specs.Prelude.{Some, None, Ok, Err}
+use Rattle.wire.specs.Format.{byte_of, kind_for, body_size, kind_of, is_kind, record_size, element_of}
+use Rattle.wire.specs.Reading.{Record, check_record, no_bytes, answer_of, read_next, read_record, bytes_taken, rest_of, IsRest, check_records, elements_in, handed_back, read_set}
+use Rattle.wire.proofs.FormatLaws.{some_size, kind_size}
 
 -- NO BYTES, and some
 pub no_bytes_lem : (s : List ℕ) → no_bytes s ≡ true → s ≡ []
@@ -66,79 +62,61 @@ module _ (room place : ℕ) (s : List ℕ) where
 
   -- what an answer tells of the bytes
   abbrev pub Tells : Record → Type 0
-  Tells (answer.Element e) = IsElement s × (1 ≤ room) × (element_of s ≡ e)
-  Tells (answer.Refused r) = (no_bytes s ≡ false) × (check_record room place s ≡ TurnedAway r)
-  Tells answer.End = no_bytes s ≡ true
+  Tells (Ok (Some e)) = IsElement s × (1 ≤ room) × (element_of s ≡ e)
+  Tells (Err r) = (no_bytes s ≡ false) × (check_record room place s ≡ TurnedAway r)
+  Tells (Ok None) = no_bytes s ≡ true
 
   pub answer_tells : {r : Record} → read_next room place s ≡ r → Tells r
   unfolding read_next
   answer_tells h = subst Tells h (go (no_bytes s) (check_record room place s) refl refl)
     where
-      go : (b : Bool) (c : Check) → no_bytes s ≡ b → check_record room place s ≡ c → Tells (cond b answer.End (answer_of c (element_of s)))
+      go : (b : Bool) (c : Check) → no_bytes s ≡ b → check_record room place s ≡ c → Tells (cond b (Ok None) (answer_of c (element_of s)))
       go true c p q = p
       go false Fine p q = let f = record_fine.0 q in (f.0, f.1, refl)
       go false (TurnedAway r) p q = (p, q)
 
-  pub element_answers : IsElement s → 1 ≤ room → read_next room place s ≡ answer.Element (element_of s)
+  pub element_answers : IsElement s → 1 ≤ room → read_next room place s ≡ Ok (Some (element_of s))
   unfolding read_next
   element_answers h r = rw (element_bytes s h, record_fine.1 (h, r))
 
 -- THE REST
 module _ (s : List ℕ) where
   -- an element is one at any place, and wherever there is room
-  taken_element : IsElement s → bytes_taken (read_record s) s ≡ record_size s
-  unfolding read_record bytes_taken
-  taken_element h = rw (element_answers places 0 s h (omega arith))
-
   pub rest_element : IsElement s → rest_of s ≡ drop (record_size s) s
-  unfolding rest_of
-  rest_element h = rw (taken_element h)
+  unfolding read_record bytes_taken rest_of
+  rest_element h = rw (element_answers places 0 s h (omega arith))
 
--- an answer that is no element, as `let .. else` leaves it
-abbrev pub NoElement : Record → Type 0
-NoElement r = OneOf (1 ∷ 2 ∷ []) (tag_of the_type r)
+  element_told : {e : Element} → read_record s ≡ Ok (Some e) → IsElement s
+  unfolding read_record
+  element_told h = (answer_tells places 0 s h).0
 
-pub no_element : {A : Type 0} (e : Element) → NoElement (answer.Element e) → A
-no_element e = ⊎_elim (λ (z : ◌≡◌ {A = ℕ} 0 1). absurd (omega arith)) (λ (z : ◌≡◌ {A = ℕ} 0 2). absurd (omega arith))
+  pub taken_is : {e : Element} → Ok (Some e) ≡ read_record s → suc (body_size (byte_of (kind_for e.period))) ≡ bytes_taken (read_record s) s
+  unfolding read_record bytes_taken
+  taken_is h =
+      let k = answer_tells places 0 s (sym h) in
+      ap (λ x. suc (body_size (byte_of (kind_for x.period)))) (sym k.2) ∙ kind_size s k.0.kind ∙ ap (λ r. bytes_taken r s) h
 
-pub is_no_element : (r : Record) → ((e : Element) → r ≡ answer.Element e → ⊥) → NoElement r
-is_no_element (answer.Element e) n = absurd (n e refl)
-is_no_element (answer.Refused r) n = inl refl
-is_no_element answer.End n = inr refl
+  pub taken_within : bytes_taken (read_record s) s ≤ length s
+  unfolding bytes_taken
+  taken_within = go (read_record s) refl
+    where
+      go : (r : Record) → read_record s ≡ r → bytes_taken r s ≤ length s
+      go (Ok (Some e)) p = (element_told p).whole
+      go (Ok None) p = omega arith
+      go (Err r) p = omega arith
 
--- an answer that is no refusal, as a `match` leaves it
-pub no_refusal : (r : Record) → OneOf (0 ∷ 2 ∷ []) (tag_of the_type r) → Fine ≡ check_of r
-no_refusal (answer.Element e) o = refl
-no_refusal (answer.Refused r) o = ⊎_elim (λ (z : ◌≡◌ {A = ℕ} 1 0). absurd (omega arith)) (λ (z : ◌≡◌ {A = ℕ} 1 2). absurd (omega arith)) o
-no_refusal answer.End o = refl
-
-taken_none : (r : Record) (s : List ℕ) → NoElement r → bytes_taken r s ≡ 0
-unfolding bytes_taken
-taken_none (answer.Element e) s o = no_element e o
-taken_none (answer.Refused r) s o = refl
-taken_none answer.End s o = refl
-
-pub all_is_rest : (s : Bor (List ℕ)) {r : Record} → read_record s.now ≡ r → NoElement r → IsRest s s
-unfolding rest_of
-all_is_rest s {r} h o =
-    let none : bytes_taken (read_record s.now) s.now ≡ 0 = ap (λ x. bytes_taken x s.now) h ∙ taken_none r s.now o in
-    let same : s.ref_ptr.1 ≡ bytes_taken (read_record s.now) s.now + s.ref_ptr.1 = omega arith in
-    record { bytes = rw none; part = λ i. (s.ref_ptr.0, same i) }
-
--- the part from n on, as it is cut from the slice
+-- the part from where the record ends, as it is cut from the slice
 pub part_is_rest :
-    (s x : Bor (List ℕ)) (n : ℕ) →
-    IsElement s.now →
-    n ≡ record_size s.now →
+    (s x : Bor (List ℕ)) {n : ℕ} →
+    n ≡ bytes_taken (read_record s.now) s.now →
     x.now ≡ take (length s.now - n) (drop n s.now) →
     x.ref_ptr ≡ (s.ref_ptr.0, n + s.ref_ptr.1) →
     IsRest s x
-part_is_rest s x n h g b p =
-    let size : n ≡ bytes_taken (read_record s.now) s.now = g ∙ sym (taken_element s.now h) in
-    record {
-      bytes = b ∙ take_all (length s.now - n) (drop n s.now) (simp length-drop (omega arith)) ∙ rw g (sym (rest_element s.now h));
-      part = p ∙ (λ i. (s.ref_ptr.0, size i + s.ref_ptr.1));
-    }
+unfolding rest_of
+part_is_rest s x {n} g b p = record {
+  bytes = b ∙ take_all (length s.now - n) (drop n s.now) (simp length-drop (omega arith)) ∙ ap (λ m. drop m s.now) g;
+  part = p ∙ (λ i. (s.ref_ptr.0, g i + s.ref_ptr.1));
+}
 
 -- THE RECORDS, one by one
 module _ (place : ℕ) (s : List ℕ) where
@@ -201,7 +179,7 @@ read_elements s h = rw h
 
 -- A REFUSED READ
 handed_refused : (v : Check) (t : TaskSet) {r : Refusal} → (handed_back v t).check ≡ TurnedAway r → (handed_back v t).set ≡ empty_set
-handed_refused Fine t h = let z : ◌≡◌ {A = ℕ} 0 1 = cc in absurd (omega arith)
+handed_refused Fine t h = cc
 handed_refused (TurnedAway r) t h = refl
 
 pub refused_is_empty : (s : List ℕ) {r : Refusal} → (read_set s).check ≡ TurnedAway r → (read_set s).set ≡ empty_set

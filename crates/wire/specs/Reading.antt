@@ -1,15 +1,13 @@
 -- Document 01, "The set as bytes": reading one record, the unread rest, and reading a set; with its part of "What is turned away".
-use Rattle.std.specs.Prelude.{ℕ, zero, suc, ◌+◌, ◌≡◌, Bool, cond, List, [], ◌∷◌, eqb, leb, length, drop}
+use Rattle.std.specs.Prelude.{ℕ, zero, suc, ◌+◌, ◌≡◌, Bool, cond, List, [], ◌∷◌, eqb, leb, length, drop, Option, Some, None, Result, Ok, Err}
 use Rattle.std.specs.Borrow.{Bor}
 use Rattle.model.specs.declared.elements.Element.{Element}
 use Rattle.model.specs.declared.elements.TaskSet.{TaskSet}
+use Rattle.model.specs.declared.answers.Refusal.{Refusal}
 use Rattle.model.specs.declared.answers.Check.{Check}
 use Rattle.model.specs.declared.answers.Check.TheVariants.{Fine, TurnedAway}
 use Rattle.model.specs.Elements.{places, set_of, empty_set}
 use Rattle.model.specs.TurnedAway.{unless, ◌then◌, check_element}
-use Rattle.wire.specs.declared.records.Record.{Record}
-use Rattle.wire.specs.declared.records.Record.TheVariants as answer
-use Rattle.wire.specs.declared.reading.ReadSet.{ReadSet}
 use Rattle.wire.specs.Format.{kind_of, is_kind, record_size, element_of}
 
 -- ONE RECORD, whose kind byte has this place; room is how many elements may still come
@@ -25,19 +23,21 @@ check_record room place s =
 unfoldable pub no_bytes : List ℕ → Bool
 no_bytes s = eqb (length s) 0
 
+-- "the element, the refusal or, on no bytes, the end": the end is Ok None
+abbrev pub Record : Type 0
+Record = Result (Option Element) Refusal
+
 abbrev pub answer_of : Check → Element → Record
-answer_of Fine e = answer.Element e
-answer_of (TurnedAway r) e = answer.Refused r
+answer_of Fine e = Ok (Some e)
+answer_of (TurnedAway r) e = Err r
 
--- what each case of an answer says of the checks; `told` gives its number and place
-abbrev pub check_of : Record → Check
-check_of (answer.Element e) = Fine
-check_of (answer.Refused r) = TurnedAway r
-check_of answer.End = Fine
+-- what an answer says of the checks; `told` gives its number and place
+abbrev pub check_of : {A : Type 0} → Result A Refusal → Check
+check_of (Ok x) = Fine
+check_of (Err r) = TurnedAway r
 
--- "the element, the refusal or, on no bytes, the end"
 unfoldable pub read_next : ℕ → ℕ → List ℕ → Record
-read_next room place s = cond (no_bytes s) answer.End (answer_of (check_record room place s) (element_of s))
+read_next room place s = cond (no_bytes s) (Ok None) (answer_of (check_record room place s) (element_of s))
 
 -- one record alone: its place is 0, and there is room for it
 unfoldable pub read_record : List ℕ → Record
@@ -46,9 +46,9 @@ read_record s = read_next places 0 s
 -- THE UNREAD REST
 -- how many bytes the record takes: "where the record is refused, the rest is all of them"
 unfoldable pub bytes_taken : Record → List ℕ → ℕ
-bytes_taken (answer.Element e) s = record_size s
-bytes_taken (answer.Refused r) s = 0
-bytes_taken answer.End s = 0
+bytes_taken (Ok (Some e)) s = record_size s
+bytes_taken (Ok None) s = 0
+bytes_taken (Err r) s = 0
 
 unfoldable pub rest_of : List ℕ → List ℕ
 rest_of s = drop (bytes_taken (read_record s) s) s
@@ -69,6 +69,11 @@ check_records (suc room) place s =
 unfoldable pub elements_in : ℕ → List ℕ → List Element
 elements_in zero s = []
 elements_in (suc room) s = cond (no_bytes s) [] (element_of s ∷ elements_in room (drop (record_size s) s))
+
+-- what the checks find, and the set that is handed back
+pub record ReadSet : Type 0 where
+  pub check : Check
+  pub set : TaskSet
 
 -- "A refused read hands back the empty set with all fillers"
 abbrev pub handed_back : Check → TaskSet → ReadSet

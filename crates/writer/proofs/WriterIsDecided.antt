@@ -20,9 +20,8 @@ use Rattle.model.proofs.TurnedAwayLaws.{turned_tells, then_fine, then_turned, un
 use Rattle.model.proofs.RowLaws.{set_is_turned_away}
 use Rattle.model.specs.Promises.{Promises}
 use Rattle.model.proofs.PromiseLaws.{promises_what_follows}
-use Rattle.writer.specs.declared.writing.Written.{Written}
-use Rattle.writer.specs.declared.writing.Written.TheVariants.{Bytes, Refused}
-use Rattle.writer.specs.Writing.{bytes_of, check_write, written_by, write_set, buffer_after}
+use Rattle.std.specs.Prelude.{Ok, Err}
+use Rattle.writer.specs.Writing.{Written, bytes_of, check_write, written_by, write_set, buffer_after}
 use Rattle.model.specs.Buffers.{over}
 use Rattle.writer.specs.Outcomes.{HasNoRoom, IsNotWritten}
 use Rattle.writer.specs.FunctionContracts.{WriteSetSays}
@@ -30,16 +29,16 @@ use Rattle.writer.specs.contracts
 use Rattle.writer.proofs.writing
 use Rattle.writer.proofs.Outcomes.{write_set_keeps}
 
-fine_tells : (c : Check) {m n : ℕ} → written_by c m ≡ Bytes n → (c ≡ Fine) × (m ≡ n)
+fine_tells : (c : Check) {m n : ℕ} → written_by c m ≡ Ok n → (c ≡ Fine) × (m ≡ n)
 fine_tells Fine h = (refl, cc)
-fine_tells (TurnedAway r) h = let z : ◌≡◌ {A = ℕ} 0 1 = cc in absurd (omega arith)
+fine_tells (TurnedAway r) h = cc
 
-refused_tells : (c : Check) (m : ℕ) {r : Refusal} → written_by c m ≡ Refused r → c ≡ TurnedAway r
-refused_tells Fine m h = let z : ◌≡◌ {A = ℕ} 0 1 = cc in absurd (omega arith)
+refused_tells : (c : Check) (m : ℕ) {r : Refusal} → written_by c m ≡ Err r → c ≡ TurnedAway r
+refused_tells Fine m h = cc
 refused_tells (TurnedAway r) m h = cc
 
 -- THEOREM: a set is written exactly when it is legal and its bytes have room
-pub set_is_written : (t : TaskSet) (room n : ℕ) → (write_set t room ≡ Bytes n) ↔ ((is_legal_set t ≡ true) × (length (bytes_of t) ≡ n) × (n ≤ room))
+pub set_is_written : (t : TaskSet) (room n : ℕ) → (write_set t room ≡ Ok n) ↔ ((is_legal_set t ≡ true) × (length (bytes_of t) ≡ n) × (n ≤ room))
 unfolding check_write write_set
 set_is_written t room n =
     let fits = unless_fine (leb (length (bytes_of t)) room) 10 (length (bytes_of t)) in (
@@ -73,7 +72,7 @@ module _ (t : TaskSet) (number place room : ℕ) where
       )
 
   -- THEOREM: a set is refused exactly as document 01 says: by 3, else by its first bad value, else by 10
-  pub set_is_not_written : (write_set t room ≡ Refused (record { number = number; place = place })) ↔ IsNotWritten t room number place
+  pub set_is_not_written : (write_set t room ≡ Err (record { number = number; place = place })) ↔ IsNotWritten t room number place
   unfolding write_set
   set_is_not_written = (
     λ h. write_is_refused.0 (refused_tells (check_write t room) (length (bytes_of t)) h),
@@ -83,7 +82,7 @@ module _ (t : TaskSet) (number place room : ℕ) where
 -- WHATEVER `write_set` ANSWERS AND LEAVES
 module _ (t : TaskSet) (out : List ℕ) (a : Written) (after : List ℕ) (says : WriteSetSays t out a after) where
   -- THEOREM: the bytes stand at the start of the buffer, and what is past them stays
-  pub bytes_are_written : (n : ℕ) → a ≡ Bytes n → (take n after ≡ bytes_of t) × (drop n after ≡ drop n out)
+  pub bytes_are_written : (n : ℕ) → a ≡ Ok n → (take n after ≡ bytes_of t) × (drop n after ≡ drop n out)
   unfolding write_set buffer_after
   bytes_are_written n h =
       let f = fine_tells (check_write t (length out)) (sym says.0 ∙ h) in
@@ -91,13 +90,13 @@ module _ (t : TaskSet) (out : List ℕ) (a : Written) (after : List ℕ) (says :
       rw buffer (take_at (bytes_of t) _ n f.1, drop_at (bytes_of t) _ n f.1 ∙ ap (λ m. drop m out) f.1)
 
   -- THEOREM: a refused write changes no byte
-  pub refused_write_changes_nothing : (r : Refusal) → a ≡ Refused r → after ≡ out
+  pub refused_write_changes_nothing : (r : Refusal) → a ≡ Err r → after ≡ out
   unfolding write_set buffer_after
   refused_write_changes_nothing r h = says.1 ∙ rw (refused_tells (check_write t (length out)) (length (bytes_of t)) (sym says.0 ∙ h)) refl
 
 -- THEOREM: so its code, where it refuses, leaves the buffer as it was
 pub refused_code_changes_nothing :
     Promises contracts.writing.write_set.ended writing.write_set.Symbol.code writing.write_set.Symbol.name
-    (λ κs given r after. (q : Refusal) → r ≡ Refused q → after.1.0.now ≡ given.1.0.now)
+    (λ κs given r after. (q : Refusal) → r ≡ Err q → after.1.0.now ≡ given.1.0.now)
 refused_code_changes_nothing =
     promises_what_follows (λ κs given r after says. refused_write_changes_nothing given.0 given.1.0.now r after.1.0.now says) write_set_keeps
