@@ -3,7 +3,7 @@ use Prim.Native.Nat.{ℕ}
 use mathlib.Core.Path.{◌≡◌, refl}
 use mathlib.Core.List.{List, [], ◌∷◌, ◌++◌}
 use lib.ListN.{replicate}
-use Rattle.model.specs.declared.answers.Check.TheVariants.{Fine}
+use Rattle.model.specs.declared.answers.Reason.TheVariants.{RecordCut}
 use Rattle.model.specs.Elements.{within, is_period, is_offset, is_deadline, is_cost, set_of, empty_set}
 use Rattle.model.specs.Answers.{Told, told}
 use Rattle.model.specs.TurnedAway.{turned, unless, check_element}
@@ -24,7 +24,7 @@ numbers_as_bytes = (refl, refl, refl)
 abbrev s7 : List ℕ
 s7 = 1 ∷ 10 ∷ 0 ∷ 0 ∷ 0 ∷ 0 ∷ 0 ∷ 0 ∷ 0 ∷ 2 ∷ 0 ∷ 0 ∷ 0 ∷ 2 ∷ 0 ∷ 0 ∷ 0 ∷ 2 ∷ 0 ∷ 0 ∷ 0 ∷ 0 ∷ 11 ∷ 0 ∷ 0 ∷ 0 ∷ 8 ∷ 0 ∷ 0 ∷ 0 ∷ []
 
-pub S7_as_bytes : (read_set s7 ≡ handed_back Fine (set_of S7)) × (records_of S7 ≡ s7)
+pub S7_as_bytes : (read_set s7 ≡ handed_back (Ok tt) (set_of S7)) × (records_of S7 ≡ s7)
 unfolding within is_period is_offset is_deadline is_cost unless check_element number_bytes is_kind body_size record_size element_of start_of record_of records_of check_record no_bytes check_records elements_in read_set
 S7_as_bytes = (refl, refl)
 
@@ -71,7 +71,7 @@ records_in_order = (refl, refl, refl, refl, refl, refl, refl, refl, refl, refl, 
 pub sets_in_order :
     (all (record_of (every 1 0 1 1) ++ (record_of (once 0 1 1) ++ (3 ∷ []))) ≡ refusal 1 30)
     × (all (record_of (once 0 1 1) ++ (record_of (once 0 1 0) ++ (3 ∷ []))) ≡ refusal 7 13)
-    × (read_set (record_of (once 0 1 1) ++ (2 ∷ [])) ≡ handed_back (turned 2 13) empty_set)
+    × (read_set (record_of (once 0 1 1) ++ (2 ∷ [])) ≡ handed_back (turned RecordCut 13) empty_set)
     × (all (records_of (replicate 128 (once 0 1 1))) ≡ none)
     × (all (records_of (replicate 129 (once 0 1 1))) ≡ refusal 3 1664)
     × (all (records_of (replicate 128 (once 0 1 1)) ++ record_of (once 0 0 0)) ≡ refusal 3 1664)

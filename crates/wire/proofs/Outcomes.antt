@@ -5,7 +5,6 @@ use mathlib.Core.List.{List}
 use denote.Ref.{Bor}
 use Rattle.model.specs.Promises.{Promises}
 use Rattle.model.specs.declared.elements.TaskSet.{TaskSet}
-use Rattle.model.specs.declared.answers.Check.{Check}
 use Rattle.wire.specs.Reading.{Record, IsRest}
 use Rattle.wire.specs.FunctionContracts.{ReadRecordSays, ReadSetSays, ByteSays, RecordSizeSays, KindSays}
 use Rattle.wire.specs.contracts
@@ -14,6 +13,7 @@ use Rattle.wire.proofs.reading
 use Rattle.wire.proofs.kinds
 use Rattle.std.specs.Prelude.{Result, Ok, Err}
 use Rattle.model.specs.declared.elements.Period.{Period}
+use Rattle.model.specs.Answers.{Check}
 use Rattle.model.proofs.Cases.{clash}
 use Rattle.wire.specs.declared.kinds.Kind.{Kind}
 use Rattle.wire.specs.declared.kinds.Kind.TheVariants.{Periodic, Single}

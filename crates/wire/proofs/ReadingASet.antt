@@ -8,7 +8,6 @@ use lib.Seq.{set-append_seam}
 use Rattle.model.specs.declared.elements.Element.{Element}
 use Rattle.model.specs.declared.elements.TaskSet.{TaskSet}
 use Rattle.model.specs.declared.answers.Refusal.{Refusal}
-use Rattle.model.specs.declared.answers.Check.TheVariants.{Fine, TurnedAway}
 use Rattle.model.specs.Elements.{places, filler, set_of, empty_set}
 use Rattle.std.specs.Prelude.{Some, None, Ok, Err}
 use Rattle.wire.specs.Format.{record_size, element_of}
@@ -47,13 +46,13 @@ module _ (s : List ℕ) (t : TaskSet) (left : List ℕ) (k : Reading s t left) w
   pub count_is : t.count ≡ length k.got
   count_is = ap (λ x. x.count) k.table
 
-  pub stop_refused : {r : Refusal} → read_next (places - t.count) (length s - length left) left ≡ Err r → handed_back (TurnedAway r) t ≡ read_set s
+  pub stop_refused : {r : Refusal} → read_next (places - t.count) (length s - length left) left ≡ Err r → handed_back (Err r) t ≡ read_set s
   unfolding read_set
   stop_refused h =
       let f = answer_tells (places - length k.got) (length s - length left) left (rw count_is at h) in
       rw (k.check, records_stop (length s - length left) left (places - length k.got) f.0 f.1)
 
-  pub stop_end : read_next (places - t.count) (length s - length left) left ≡ Ok None → handed_back Fine t ≡ read_set s
+  pub stop_end : read_next (places - t.count) (length s - length left) left ≡ Ok None → handed_back (Ok tt) t ≡ read_set s
   unfolding read_set
   stop_end h =
       let f = answer_tells (places - length k.got) (length s - length left) left (rw count_is at h) in

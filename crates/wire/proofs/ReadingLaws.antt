@@ -12,9 +12,9 @@ use lib.Seq.{take_all}
 use borrow.Author.Tests.{le-leb, leb-true, eqb-true, ne_eqb}
 use Rattle.model.specs.declared.elements.Element.{Element}
 use Rattle.model.specs.declared.elements.TaskSet.{TaskSet}
+use Rattle.model.specs.declared.answers.Reason.TheVariants.{UnknownKind, RecordCut, TooManyElements}
 use Rattle.model.specs.declared.answers.Refusal.{Refusal}
-use Rattle.model.specs.declared.answers.Check.{Check}
-use Rattle.model.specs.declared.answers.Check.TheVariants.{Fine, TurnedAway}
+use Rattle.model.specs.Answers.{Check}
 use Rattle.model.specs.Over.{all_over}
 use Rattle.model.specs.Elements.{places, is_legal, AllLegal, set_of, empty_set}
 use Rattle.model.specs.TurnedAway.{unless}
@@ -46,16 +46,16 @@ element_bytes : (s : List ℕ) → IsElement s → no_bytes s ≡ false
 element_bytes s h = (some_bytes s).1 (omega (arith, some_size s, h.whole))
 
 module _ (room place : ℕ) (s : List ℕ) where
-  pub record_fine : (check_record room place s ≡ Fine) ↔ (IsElement s × (1 ≤ room))
+  pub record_fine : (check_record room place s ≡ Ok tt) ↔ (IsElement s × (1 ≤ room))
   unfolding check_record
   record_fine =
-      let k = unless_fine (is_kind (kind_of s)) 1 place in
-      let w = unless_fine (leb (record_size s) (length s)) 2 place in
-      let r = unless_fine (leb 1 room) 3 place in
+      let k = unless_fine (is_kind (kind_of s)) UnknownKind place in
+      let w = unless_fine (leb (record_size s) (length s)) RecordCut place in
+      let r = unless_fine (leb 1 room) TooManyElements place in
       let l = element_fine place (element_of s) in (
-        λ h. let h₁ = (then_fine (unless (is_kind (kind_of s)) 1 place) _).0 h in
-            let h₂ = (then_fine (unless (leb (record_size s) (length s)) 2 place) _).0 h₁.1 in
-            let h₃ = (then_fine (unless (leb 1 room) 3 place) _).0 h₂.1 in
+        λ h. let h₁ = (then_fine (unless (is_kind (kind_of s)) UnknownKind place) _).0 h in
+            let h₂ = (then_fine (unless (leb (record_size s) (length s)) RecordCut place) _).0 h₁.1 in
+            let h₃ = (then_fine (unless (leb 1 room) TooManyElements place) _).0 h₂.1 in
             (record { kind = k.0 h₁.0; whole = leb-true _ _ (w.0 h₂.0); legal = l.0 h₃.1 }, leb-true _ _ (r.0 h₃.0)),
         λ h. rw (k.1 h.0.kind, w.1 (le-leb _ _ h.0.whole), r.1 (le-leb _ _ h.1), l.1 h.0.legal),
       )
@@ -63,7 +63,7 @@ module _ (room place : ℕ) (s : List ℕ) where
   -- what an answer tells of the bytes
   abbrev pub Tells : Record → Type 0
   Tells (Ok (Some e)) = IsElement s × (1 ≤ room) × (element_of s ≡ e)
-  Tells (Err r) = (no_bytes s ≡ false) × (check_record room place s ≡ TurnedAway r)
+  Tells (Err r) = (no_bytes s ≡ false) × (check_record room place s ≡ Err r)
   Tells (Ok None) = no_bytes s ≡ true
 
   pub answer_tells : {r : Record} → read_next room place s ≡ r → Tells r
@@ -72,8 +72,8 @@ module _ (room place : ℕ) (s : List ℕ) where
     where
       go : (b : Bool) (c : Check) → no_bytes s ≡ b → check_record room place s ≡ c → Tells (cond b (Ok None) (answer_of c (element_of s)))
       go true c p q = p
-      go false Fine p q = let f = record_fine.0 q in (f.0, f.1, refl)
-      go false (TurnedAway r) p q = (p, q)
+      go false (Ok tt) p q = let f = record_fine.0 q in (f.0, f.1, refl)
+      go false (Err r) p q = (p, q)
 
   pub element_answers : IsElement s → 1 ≤ room → read_next room place s ≡ Ok (Some (element_of s))
   unfolding read_next
@@ -120,12 +120,12 @@ part_is_rest s x {n} g b p = record {
 
 -- THE RECORDS, one by one
 module _ (place : ℕ) (s : List ℕ) where
-  pub records_end : (room : ℕ) → no_bytes s ≡ true → check_records room place s ≡ Fine
+  pub records_end : (room : ℕ) → no_bytes s ≡ true → check_records room place s ≡ Ok tt
   unfolding check_records
   records_end zero h = rw h
   records_end (suc room) h = rw h
 
-  pub records_stop : (room : ℕ) {r : Refusal} → no_bytes s ≡ false → check_record room place s ≡ TurnedAway r → check_records room place s ≡ TurnedAway r
+  pub records_stop : (room : ℕ) {r : Refusal} → no_bytes s ≡ false → check_record room place s ≡ Err r → check_records room place s ≡ Err r
   unfolding check_records
   records_stop zero h g = rw (h, g)
   records_stop (suc room) h g = rw (h, g)
@@ -145,8 +145,8 @@ elements_next room s h = rw (element_bytes s h)
 
 -- WHERE NO RECORD IS REFUSED: what the bytes start with is an element, and so on with what follows it
 pub records_rest :
-    (room place : ℕ) (s : List ℕ) → check_records (suc room) place s ≡ Fine → no_bytes s ≡ false →
-    IsElement s × (check_records room (place + record_size s) (drop (record_size s) s) ≡ Fine)
+    (room place : ℕ) (s : List ℕ) → check_records (suc room) place s ≡ Ok tt → no_bytes s ≡ false →
+    IsElement s × (check_records room (place + record_size s) (drop (record_size s) s) ≡ Ok tt)
 unfolding check_records
 records_rest room place s h b =
     let g = (then_fine (check_record (suc room) place s) _).0 (rw b at h) in
@@ -154,7 +154,7 @@ records_rest room place s h b =
 
 -- so every element is legal, and there are no more than there was room for
 pub elements_legal :
-    (room place : ℕ) (s : List ℕ) → check_records room place s ≡ Fine → AllLegal (elements_in room s) × (length (elements_in room s) ≤ room)
+    (room place : ℕ) (s : List ℕ) → check_records room place s ≡ Ok tt → AllLegal (elements_in room s) × (length (elements_in room s) ≤ room)
 unfolding elements_in all_over
 elements_legal zero place s h = (refl, omega arith)
 elements_legal (suc room) place s h =
@@ -170,18 +170,18 @@ unfolding read_set
 read_check s = go (check_records places 0 s)
   where
     go : (c : Check) → (handed_back c (set_of (elements_in places s))).check ≡ c
-    go Fine = refl
-    go (TurnedAway r) = refl
+    go (Ok tt) = refl
+    go (Err r) = refl
 
-pub read_elements : (s : List ℕ) → check_records places 0 s ≡ Fine → (read_set s).set ≡ set_of (elements_in places s)
+pub read_elements : (s : List ℕ) → check_records places 0 s ≡ Ok tt → (read_set s).set ≡ set_of (elements_in places s)
 unfolding read_set
 read_elements s h = rw h
 
 -- A REFUSED READ
-handed_refused : (v : Check) (t : TaskSet) {r : Refusal} → (handed_back v t).check ≡ TurnedAway r → (handed_back v t).set ≡ empty_set
-handed_refused Fine t h = cc
-handed_refused (TurnedAway r) t h = refl
+handed_refused : (v : Check) (t : TaskSet) {r : Refusal} → (handed_back v t).check ≡ Err r → (handed_back v t).set ≡ empty_set
+handed_refused (Ok tt) t h = cc
+handed_refused (Err r) t h = refl
 
-pub refused_is_empty : (s : List ℕ) {r : Refusal} → (read_set s).check ≡ TurnedAway r → (read_set s).set ≡ empty_set
+pub refused_is_empty : (s : List ℕ) {r : Refusal} → (read_set s).check ≡ Err r → (read_set s).set ≡ empty_set
 unfolding read_set
 refused_is_empty s h = handed_refused (check_records places 0 s) (set_of (elements_in places s)) h

@@ -9,7 +9,8 @@ use native.Mathlib.Omega.{arith}
 use lib.ListN.{length, drop}
 use Rattle.model.specs.declared.elements.Element.{Element}
 use Rattle.model.specs.Elements.{places, is_legal}
-use Rattle.model.specs.Rows.{IsFirstRow}
+use Rattle.model.specs.Answers.{number_of}
+use Rattle.model.specs.Rows.{IsFirstRow, IsRefusal}
 use Rattle.model.proofs.Cases.{clash}
 use Rattle.model.proofs.TurnedAwayLaws.{turned_tells}
 use Rattle.std.specs.Prelude.{Some, None, Ok, Err}
@@ -47,22 +48,25 @@ element_is_answered s e h = (found, back)
 -- THEOREM: a refusal is answered exactly by the first row that does not let the record pass, at place 0
 pub refusal_is_answered :
     (s : List ℕ) (number place : ℕ) →
-    (read_record s ≡ Err (record { number = number; place = place })) ↔ ((1 ≤ length s) × (place ≡ 0) × IsFirstRow (rows [] s) number)
+    IsRefusal (read_record s) number place ↔ ((1 ≤ length s) × (place ≡ 0) × IsFirstRow (rows [] s) number)
 unfolding read_record read_next
 refusal_is_answered s number place = (found, back)
   where
-    found : read_record s ≡ Err (record { number = number; place = place }) → (1 ≤ length s) × (place ≡ 0) × IsFirstRow (rows [] s) number
+    found : IsRefusal (read_record s) number place → (1 ≤ length s) × (place ≡ 0) × IsFirstRow (rows [] s) number
     found r =
-        let k = answer_tells places 0 s r in
+        let k = answer_tells places 0 s r.by in
         let f = record_turned [] s places 0 (omega arith) k.1 in
-        let told = turned_tells f.1 in
-        ((some_bytes s).0 k.0, told.1, subst (IsFirstRow (rows [] s)) (sym told.0) f.2)
+        let told = turned_tells f.2.by in
+        let same : f.0 ≡ number = sym f.2.numbered ∙ ap number_of (sym told.0) ∙ r.numbered in
+        ((some_bytes s).0 k.0, told.1, subst (IsFirstRow (rows [] s)) same f.1)
 
-    back : (1 ≤ length s) × (place ≡ 0) × IsFirstRow (rows [] s) number → read_record s ≡ Err (record { number = number; place = place })
-    back k = rw ((some_bytes s).1 k.0, record_turns [] s places 0 (omega arith) number k.2, k.1)
+    back : (1 ≤ length s) × (place ≡ 0) × IsFirstRow (rows [] s) number → IsRefusal (read_record s) number place
+    back k =
+        let t = record_turns [] s places 0 (omega arith) number k.2 in
+        record { reason = t.reason; numbered = t.numbered; by = rw ((some_bytes s).1 k.0, t.by, k.1) refl }
 
 -- THEOREM: one record alone is never refused by 3
-pub never_by_3 : (s : List ℕ) (place : ℕ) → read_record s ≡ Err (record { number = 3; place = place }) → ⊥
+pub never_by_3 : (s : List ℕ) (place : ℕ) → IsRefusal (read_record s) 3 place → ⊥
 never_by_3 s place h = clash refl ((refusal_is_answered s 3 place).0 h).2.stops
 
 -- THEOREM: the rest is what follows the record of an element, and all of the bytes where there is none

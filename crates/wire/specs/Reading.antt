@@ -3,9 +3,9 @@ use Rattle.std.specs.Prelude.{ℕ, zero, suc, ◌+◌, ◌≡◌, Bool, cond, Li
 use Rattle.std.specs.Borrow.{Bor}
 use Rattle.model.specs.declared.elements.Element.{Element}
 use Rattle.model.specs.declared.elements.TaskSet.{TaskSet}
+use Rattle.model.specs.declared.answers.Reason.TheVariants.{UnknownKind, RecordCut, TooManyElements}
 use Rattle.model.specs.declared.answers.Refusal.{Refusal}
-use Rattle.model.specs.declared.answers.Check.{Check}
-use Rattle.model.specs.declared.answers.Check.TheVariants.{Fine, TurnedAway}
+use Rattle.model.specs.Answers.{Check}
 use Rattle.model.specs.Elements.{places, set_of, empty_set}
 use Rattle.model.specs.TurnedAway.{unless, ◌then◌, check_element}
 use Rattle.wire.specs.Format.{kind_of, is_kind, record_size, element_of}
@@ -14,9 +14,9 @@ use Rattle.wire.specs.Format.{kind_of, is_kind, record_size, element_of}
 -- "Records are then checked in order, each for 1, 2, 3, 4, 5, 6, 7 as far as they apply"
 unfoldable pub check_record : ℕ → ℕ → List ℕ → Check
 check_record room place s =
-    unless (is_kind (kind_of s)) 1 place
-    then unless (leb (record_size s) (length s)) 2 place
-    then unless (leb 1 room) 3 place
+    unless (is_kind (kind_of s)) UnknownKind place
+    then unless (leb (record_size s) (length s)) RecordCut place
+    then unless (leb 1 room) TooManyElements place
     then check_element place (element_of s)
 
 -- "No bytes are an empty set."
@@ -28,13 +28,13 @@ abbrev pub Record : Type 0
 Record = Result (Option Element) Refusal
 
 abbrev pub answer_of : Check → Element → Record
-answer_of Fine e = Ok (Some e)
-answer_of (TurnedAway r) e = Err r
+answer_of (Ok u) e = Ok (Some e)
+answer_of (Err r) e = Err r
 
 -- what an answer says of the checks; `told` gives its number and place
 abbrev pub check_of : {A : Type 0} → Result A Refusal → Check
-check_of (Ok x) = Fine
-check_of (Err r) = TurnedAway r
+check_of (Ok x) = Ok tt
+check_of (Err r) = Err r
 
 unfoldable pub read_next : ℕ → ℕ → List ℕ → Record
 read_next room place s = cond (no_bytes s) (Ok None) (answer_of (check_record room place s) (element_of s))
@@ -61,9 +61,9 @@ pub record IsRest (s r : Bor (List ℕ)) : Type 0 where
 -- A SET
 -- "the first refused record decides"
 unfoldable pub check_records : ℕ → ℕ → List ℕ → Check
-check_records zero place s = cond (no_bytes s) Fine (check_record 0 place s)
+check_records zero place s = cond (no_bytes s) (Ok tt) (check_record 0 place s)
 check_records (suc room) place s =
-    cond (no_bytes s) Fine (check_record (suc room) place s then check_records room (place + record_size s) (drop (record_size s) s))
+    cond (no_bytes s) (Ok tt) (check_record (suc room) place s then check_records room (place + record_size s) (drop (record_size s) s))
 
 -- the elements of the records, where none is refused
 unfoldable pub elements_in : ℕ → List ℕ → List Element
@@ -77,8 +77,8 @@ pub record ReadSet : Type 0 where
 
 -- "A refused read hands back the empty set with all fillers"
 abbrev pub handed_back : Check → TaskSet → ReadSet
-handed_back Fine t = record { check = Fine; set = t }
-handed_back (TurnedAway r) t = record { check = TurnedAway r; set = empty_set }
+handed_back (Ok u) t = record { check = Ok tt; set = t }
+handed_back (Err r) t = record { check = Err r; set = empty_set }
 
 unfoldable pub read_set : List ℕ → ReadSet
 read_set s = handed_back (check_records places 0 s) (set_of (elements_in places s))

@@ -1,17 +1,17 @@
 // A set read from bytes.
 ghost use Rattle.std.specs.Prelude.{◌≡◌};
 ghost use Rattle.model.specs.Elements.{empty_set};
-ghost use Rattle.wire.specs.Reading.{check_of, handed_back, read_set};
+ghost use Rattle.wire.specs.Reading.{handed_back, read_set};
 ghost use Rattle.wire.specs.FunctionContracts.{ReadSetSays};
 
 use crate::records::{read_next, rest};
 use model::elements::{PLACES, empty_set};
-use model::{Check, Refusal, TaskSet};
+use model::{Refusal, TaskSet};
 
 // Reads into an empty set; where a record is refused, the elements before it stand there.
 fn read_elements(bytes: &[u8], set: &mut TaskSet) -> Result<(), Refusal>
     requires { set.old ≡ empty_set }
-    ensures { handed_back (check_of result) set.new ≡ read_set bytes.now }
+    ensures { handed_back result set.new ≡ read_set bytes.now }
 {
     let mut left = bytes;
     while let Some(e) = read_next(PLACES - set.count, bytes.len() - left.len(), left)? {
@@ -22,17 +22,8 @@ fn read_elements(bytes: &[u8], set: &mut TaskSet) -> Result<(), Refusal>
     Ok(())
 }
 
-fn check_of(read: Result<(), Refusal>) -> Check
-    ensures { result ≡ check_of read }
-{
-    match read {
-        Ok(()) => Check::Fine,
-        Err(r) => Check::TurnedAway(r),
-    }
-}
-
 // Reads into a lent set, whatever it held: a caller that has one needs no second for what is read.
-pub fn read_into(bytes: &[u8], set: &mut TaskSet) -> Check
+pub fn read_into(bytes: &[u8], set: &mut TaskSet) -> Result<(), Refusal>
     ensures { ReadSetSays bytes.now result set.new }
 {
     *set = empty_set();
@@ -40,5 +31,5 @@ pub fn read_into(bytes: &[u8], set: &mut TaskSet) -> Check
     if read.is_err() {
         *set = empty_set();
     }
-    check_of(read)
+    read
 }

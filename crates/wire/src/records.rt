@@ -8,7 +8,7 @@ use crate::kinds::Kind;
 use crate::numbers::number_at;
 use model::checks::check_element;
 use model::elements::PLACES;
-use model::{Check, Element, Period, Refusal};
+use model::{Element, Period, Reason, Refusal};
 
 // A record of either kind has a number behind its kind: the period, or in a single event the offset.
 fn period_of(kind: Kind, first: u32) -> Period
@@ -50,18 +50,25 @@ pub(crate) fn read_next(room: usize, place: usize, bytes: &[u8]) -> Result<Optio
         return Ok(None);
     };
     let Ok(kind) = Kind::try_from(byte) else {
-        return Err(Refusal { number: 1, place });
+        return Err(Refusal {
+            reason: Reason::UnknownKind,
+            place,
+        });
     };
     if bytes.len() < kind.record_size() {
-        return Err(Refusal { number: 2, place });
+        return Err(Refusal {
+            reason: Reason::RecordCut,
+            place,
+        });
     }
     if room < 1 {
-        return Err(Refusal { number: 3, place });
+        return Err(Refusal {
+            reason: Reason::TooManyElements,
+            place,
+        });
     }
     let e = element_of(kind, bytes);
-    if let Check::TurnedAway(r) = check_element(place, e) {
-        return Err(r);
-    }
+    check_element(place, e)?;
     Ok(Some(e))
 }
 

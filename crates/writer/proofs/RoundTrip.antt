@@ -6,7 +6,6 @@ use mathlib.Core.List.{List, ◌++◌}
 use native.Mathlib.Omega.{arith}
 use lib.ListN.{length, take, drop, take-append-drop}
 use Rattle.model.specs.declared.elements.TaskSet.{TaskSet}
-use Rattle.model.specs.declared.answers.Check.TheVariants.{Fine}
 use Rattle.model.specs.Elements.{places, is_legal_set, counted, set_of, Same}
 use Rattle.model.proofs.ElementLaws.{legal_set, set_counted, counted_long}
 use Rattle.std.specs.Prelude.{Ok}
@@ -28,7 +27,7 @@ pub write_then_read :
     WriteSetSays t out a after →
     a ≡ Ok n →
     ReadSetSays (take n after) r.check r.set →
-    (r ≡ handed_back Fine (set_of (counted t))) × Same (set_of (counted t)) t
+    (r ≡ handed_back (Ok tt) (set_of (counted t))) × Same (set_of (counted t)) t
 write_then_read t out a after n r long says h read =
     let legal = (legal_set t).0 ((set_is_written t (length out) n).0 (sym says.0 ∙ h)).0 in
     let bytes = (bytes_are_written t out a after says n h).0 in
@@ -41,7 +40,7 @@ write_then_read t out a after n r long says h read =
 pub read_has_its_bytes :
     (s : List ℕ) →
     AllBytes s →
-    (read_set s).check ≡ Fine →
+    (read_set s).check ≡ Ok tt →
     (is_legal_set (read_set s).set ≡ true) × (bytes_of (read_set s).set ≡ s)
 read_has_its_bytes s h c =
     let k = read_is_records s h c in
@@ -55,7 +54,7 @@ pub read_then_write :
     (s : List ℕ) (r : ReadSet) (out : List ℕ) (a : Written) (after : List ℕ) →
     AllBytes s →
     ReadSetSays s r.check r.set →
-    r.check ≡ Fine →
+    r.check ≡ Ok tt →
     length s ≤ length out →
     WriteSetSays r.set out a after →
     (a ≡ Ok (length s)) × (after ≡ s ++ drop (length s) out)

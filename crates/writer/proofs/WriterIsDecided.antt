@@ -12,8 +12,7 @@ use lib.Seq.{take_at, drop_at}
 use borrow.Author.Tests.{leb-true, leb-false, le-leb, lt-leb}
 use Rattle.model.specs.declared.elements.TaskSet.{TaskSet}
 use Rattle.model.specs.declared.answers.Refusal.{Refusal}
-use Rattle.model.specs.declared.answers.Check.{Check}
-use Rattle.model.specs.declared.answers.Check.TheVariants.{Fine, TurnedAway}
+use Rattle.model.specs.Answers.{Check}
 use Rattle.model.specs.Elements.{is_legal_set}
 use Rattle.model.specs.TurnedAway.{turned, unless, check_set}
 use Rattle.model.proofs.TurnedAwayLaws.{turned_tells, then_fine, then_turned, unless_turned_lem, unless_fine, set_fine}
@@ -29,13 +28,13 @@ use Rattle.writer.specs.contracts
 use Rattle.writer.proofs.writing
 use Rattle.writer.proofs.Outcomes.{write_set_keeps}
 
-fine_tells : (c : Check) {m n : ℕ} → written_by c m ≡ Ok n → (c ≡ Fine) × (m ≡ n)
-fine_tells Fine h = (refl, cc)
-fine_tells (TurnedAway r) h = cc
+fine_tells : (c : Check) {m n : ℕ} → written_by c m ≡ Ok n → (c ≡ Ok tt) × (m ≡ n)
+fine_tells (Ok tt) h = (refl, cc)
+fine_tells (Err r) h = cc
 
-refused_tells : (c : Check) (m : ℕ) {r : Refusal} → written_by c m ≡ Err r → c ≡ TurnedAway r
-refused_tells Fine m h = cc
-refused_tells (TurnedAway r) m h = cc
+refused_tells : (c : Check) (m : ℕ) {r : Refusal} → written_by c m ≡ Err r → c ≡ Err r
+refused_tells (Ok tt) m h = cc
+refused_tells (Err r) m h = cc
 
 -- THEOREM: a set is written exactly when it is legal and its bytes have room
 pub set_is_written : (t : TaskSet) (room n : ℕ) → (write_set t room ≡ Ok n) ↔ ((is_legal_set t ≡ true) × (length (bytes_of t) ≡ n) × (n ≤ room))
@@ -53,7 +52,7 @@ module _ (t : TaskSet) (number place room : ℕ) where
   abbrev room_check : Check
   room_check = unless (leb (length (bytes_of t)) room) 10 (length (bytes_of t))
 
-  room_refused : ((check_set t ≡ Fine) × (room_check ≡ turned number place)) ↔ HasNoRoom t room number place
+  room_refused : ((check_set t ≡ Ok tt) × (room_check ≡ turned number place)) ↔ HasNoRoom t room number place
   room_refused =
       let n = length (bytes_of t) in
       let u = unless_turned_lem (leb n room) 10 n in (

@@ -15,7 +15,6 @@ use Rattle.model.specs.declared.elements.Period.TheVariants.{Once, Every}
 use Rattle.model.specs.declared.elements.Element.{Element}
 use Rattle.model.specs.declared.elements.TaskSet.{TaskSet}
 use Rattle.model.specs.declared.answers.Refusal.{Refusal}
-use Rattle.model.specs.declared.answers.Check.TheVariants.{Fine, TurnedAway}
 use Rattle.model.specs.Elements.{places, counted, empty_set}
 use Rattle.model.specs.TurnedAway.{unless, check_elements, check_set}
 use Rattle.std.specs.Prelude.{Ok, Err}
@@ -99,13 +98,13 @@ records_within s i =
 
 -- THE OUTCOMES, as the code meets them
 module _ (t : TaskSet) (out : List ℕ) where
-  pub write_refused : {r : Refusal} → check_set t ≡ TurnedAway r → (Err r ≡ write_set t (length out)) × (out ≡ buffer_after t out)
+  pub write_refused : {r : Refusal} → check_set t ≡ Err r → (Err r ≡ write_set t (length out)) × (out ≡ buffer_after t out)
   unfolding check_write write_set buffer_after
   write_refused h = (rw h, rw h)
 
   pub write_short :
       {n : ℕ} →
-      check_set t ≡ Fine →
+      check_set t ≡ Ok tt →
       n ≡ length (bytes_of t) →
       length out < n →
       (Err (record { number = 10; place = n }) ≡ write_set t (length out)) × (out ≡ buffer_after t out)
@@ -114,7 +113,7 @@ module _ (t : TaskSet) (out : List ℕ) where
 
   pub write_done :
       {n : ℕ} {out' : List ℕ} →
-      check_set t ≡ Fine →
+      check_set t ≡ Ok tt →
       n ≡ length (bytes_of t) →
       n ≤ length out →
       out' ≡ over (bytes_of t) out →

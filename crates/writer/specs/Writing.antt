@@ -2,8 +2,7 @@
 use Rattle.std.specs.Prelude.{ℕ, List, leb, length, Result, Ok, Err}
 use Rattle.model.specs.declared.elements.TaskSet.{TaskSet}
 use Rattle.model.specs.declared.answers.Refusal.{Refusal}
-use Rattle.model.specs.declared.answers.Check.{Check}
-use Rattle.model.specs.declared.answers.Check.TheVariants.{Fine, TurnedAway}
+use Rattle.model.specs.Answers.{Check}
 use Rattle.model.specs.Elements.{counted}
 use Rattle.model.specs.TurnedAway.{unless, ◌then◌, check_set}
 use Rattle.model.specs.Buffers.{over}
@@ -22,8 +21,8 @@ abbrev pub Written : Type 0
 Written = Result ℕ Refusal
 
 abbrev pub written_by : Check → ℕ → Written
-written_by Fine n = Ok n
-written_by (TurnedAway r) n = Err r
+written_by (Ok tt) n = Ok n
+written_by (Err r) n = Err r
 
 -- the numbers of each case: a refusal's number and place, and the bytes written
 pub record WrittenNumbers : Type 0 where
@@ -41,8 +40,8 @@ write_set t room = written_by (check_write t room) (length (bytes_of t))
 
 -- "a refused write leaves the buffer untouched"
 abbrev pub left_by : Check → List ℕ → List ℕ → List ℕ
-left_by Fine s out = over s out
-left_by (TurnedAway r) s out = out
+left_by (Ok tt) s out = over s out
+left_by (Err r) s out = out
 
 -- the buffer as the writer leaves it
 unfoldable pub buffer_after : TaskSet → List ℕ → List ℕ
