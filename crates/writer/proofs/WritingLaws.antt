@@ -14,6 +14,7 @@ use Rattle.model.specs.declared.elements.Period.{Period}
 use Rattle.model.specs.declared.elements.Period.TheVariants.{Once, Every}
 use Rattle.model.specs.declared.elements.Element.{Element}
 use Rattle.model.specs.declared.elements.TaskSet.{TaskSet}
+use Rattle.model.specs.declared.answers.Reason.TheVariants.{BufferTooShort}
 use Rattle.model.specs.declared.answers.Refusal.{Refusal}
 use Rattle.model.specs.Elements.{places, counted, empty_set}
 use Rattle.model.specs.TurnedAway.{unless, check_elements, check_set}
@@ -107,7 +108,7 @@ module _ (t : TaskSet) (out : List ℕ) where
       check_set t ≡ Ok tt →
       n ≡ length (bytes_of t) →
       length out < n →
-      (Err (record { number = 10; place = n }) ≡ write_set t (length out)) × (out ≡ buffer_after t out)
+      (Err (record { reason = BufferTooShort; place = n }) ≡ write_set t (length out)) × (out ≡ buffer_after t out)
   unfolding check_write unless write_set buffer_after
   write_short h g l = let short = lt-leb (length (bytes_of t)) (length out) (omega arith) in (rw (g, h, short), rw (h, short))
 

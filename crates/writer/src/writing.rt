@@ -6,7 +6,7 @@ ghost use Rattle.writer.specs.FunctionContracts.{WriteSetSays};
 
 use crate::numbers::put_number;
 use model::checks::check_set;
-use model::{Check, Element, Period, Refusal, TaskSet};
+use model::{Element, Period, Reason, Refusal, TaskSet};
 use wire::Kind;
 
 // The kind, and the period where there is one. Like each of these, it hands back the place past what it puts.
@@ -62,12 +62,10 @@ pub fn write_set(set: TaskSet, out: &mut [u8]) -> Result<usize, Refusal>
     ensures { WriteSetSays set out.old result out.new }
 {
     let needed = bytes_needed(set.counted());
-    if let Check::TurnedAway(r) = check_set(set) {
-        return Err(r);
-    }
+    check_set(set)?;
     if out.len() < needed {
         return Err(Refusal {
-            number: 10,
+            reason: Reason::BufferTooShort,
             place: needed,
         });
     }

@@ -1,4 +1,5 @@
-use Rattle.std.proofs.Common.{arith, rules, ◌≡◌, ◌≤◌, length, sym, ap, ◌∙◌}
+use Rattle.std.proofs.Common.{arith, rules, ◌≡◌, ◌≤◌, length, sym, ap}
+use Rattle.std.proofs.lemmas.Result.{err_from_is_err_and}
 use Rattle.model.specs.Elements.{places, filler}
 use Rattle.writer.specs.Writing.{bytes_of}
 use Rattle.writer.proofs.WritingLaws.{needed_is, records_fit, write_refused, write_short, write_done}
@@ -10,11 +11,13 @@ bytes_needed-needed-requires c =
     let long : length c.args.set.table ≡ places = search rules in
     rw c.counted.ensures (records_fit c.args.set long)
 
-pub returns-in-TurnedAway : goal.returns-in-TurnedAway
-returns-in-TurnedAway c = write_refused _ _ (sym c.check_set.ensures ∙ c.in-TurnedAway.is)
+pub returns-in_err-check_set : goal.returns-in_err-check_set
+returns-in_err-check_set c =
+    let p = err_from_is_err_and c.from_residual.result c.from_residual.ensures.1 in
+    rw (p.1, p.2) (write_refused _ _ (sym c.in_err-check_set.ensures))
 
 pub returns-then-out-needed : goal.returns-then-out-needed
-returns-then-out-needed c = write_short _ _ (sym c.in_default.ensures) (needed_is _ c.counted.ensures c.bytes_needed-needed.ensures) c.if-out-needed.true
+returns-then-out-needed c = write_short _ _ (sym c.in_ok-check_set.ensures) (needed_is _ c.counted.ensures c.bytes_needed-needed.ensures) c.if-out-needed.true
 
 pub loop-e-init : goal.loop-e-init
 loop-e-init c = putting_start _ _
@@ -34,4 +37,4 @@ pub returns : goal.returns
 returns c =
     let needed = needed_is c.args.set c.counted.ensures c.bytes_needed-needed.ensures in
     let end = putting_end _ _ c.loop-e.invariant (omega (arith, needed)) (omega (arith, ap length c.counted-e-items.ensures)) in
-    write_done _ _ (sym c.in_default.ensures) end.0 (omega (arith, needed, end.0)) end.1
+    write_done _ _ (sym c.in_ok-check_set.ensures) end.0 (omega (arith, needed, end.0)) end.1
