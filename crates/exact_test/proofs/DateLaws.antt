@@ -11,53 +11,44 @@ use Rattle.model.specs.declared.elements.Period.{Period}
 use Rattle.model.specs.declared.elements.Period.TheVariants.{Once, Every}
 use Rattle.model.specs.declared.elements.Element.{Element}
 use Rattle.model.specs.Demand.{f, on_date, is_test_of}
-use Rattle.places.specs.Columns.{most_bound, step_of}
-use Rattle.exact_test.specs.Segments.{is_date}
+use Rattle.places.specs.declared.columns.Place.{Place}
+use Rattle.places.specs.Columns.{most_bound, step_of, place_of}
+use Rattle.exact_test.specs.Segments.{is_date, at_date}
 
-module _ (next step : ℕ) where
-  pub date_self : is_date next step next ≡ true
+module _ (p : Place) where
+  pub date_self : is_date p p.next ≡ true
   unfolding is_date
-  date_self = rw (le-leb next next (omega arith), sub_self next, zero-mod step)
+  date_self = rw (le-leb p.next p.next (omega arith), sub_self p.next, zero-mod p.step)
 
   module _ (I : ℕ) where
-    pub date_before : I < next → is_date next step I ≡ false
+    pub date_before : I < p.next → is_date p I ≡ false
     unfolding is_date
-    date_before h = rw (lt-leb next I h)
+    date_before h = rw (lt-leb p.next I h)
 
-    date_between : next < I → I < next + step → is_date next step I ≡ false
+    date_between : p.next < I → I < p.next + p.step → is_date p I ≡ false
     unfolding is_date
     date_between h l =
-        let m : (I - next) % step ≡ I - next = mod-eq_of_lt (omega arith) in
-        rw (le-leb next I (omega arith), m) (ne_eqb (I - next) 0 (λ e. omega arith))
+        let m : (I - p.next) % p.step ≡ I - p.next = mod-eq_of_lt (omega arith) in
+        rw (le-leb p.next I (omega arith), m) (ne_eqb (I - p.next) 0 (λ e. omega arith))
 
-    date_after : next + step ≤ I → is_date next step I ≡ is_date (next + step) step I
+    date_after : p.next + p.step ≤ I → is_date p I ≡ is_date (at_date p (p.next + p.step)) I
     unfolding is_date
     date_after h =
-        let m : (I - next) % step ≡ (I - next - step) % step = mod-eq-sub-mod (omega arith) in
-        let e : I - next - step ≡ I - (next + step) = omega arith in
-        rw (le-leb next I (omega arith), le-leb (next + step) I h, m, e)
+        let m : (I - p.next) % p.step ≡ (I - p.next - p.step) % p.step = mod-eq-sub-mod (omega arith) in
+        let e : I - p.next - p.step ≡ I - (p.next + p.step) = omega arith in
+        rw (le-leb p.next I (omega arith), le-leb (p.next + p.step) I h, m, e)
 
 -- the dates after the first are those of the next one
-pub date_next : (next step I : ℕ) → (I ≡ next → ⊥) → is_date next step I ≡ is_date (next + step) step I
-date_next next step I h =
-    elim (dec_lt I next) [
-      | yes l ↦ date_before next step I l ∙ sym (date_before (next + step) step I (omega arith))
+pub date_next : (p : Place) (I : ℕ) → (I ≡ p.next → ⊥) → is_date p I ≡ is_date (at_date p (p.next + p.step)) I
+date_next p I h =
+    let next = at_date p (p.next + p.step) in
+    elim (dec_lt I p.next) [
+      | yes l ↦ date_before p I l ∙ sym (date_before next I (omega arith))
       | no l ↦
-          elim (dec_lt I (next + step)) [
-            | yes m ↦ date_between next step I (omega arith) m ∙ sym (date_before (next + step) step I m)
-            | no m ↦ date_after next step I (omega arith)
+          elim (dec_lt I next.next) [
+            | yes m ↦ date_between p I (omega arith) m ∙ sym (date_before next I m)
+            | no m ↦ date_after p I (omega arith)
           ]
-    ]
-
--- dates counted from base on
-pub date_shift : (base next step y : ℕ) → is_date (base + next) step (base + y) ≡ is_date next step y
-unfolding is_date
-date_shift base next step y =
-    elim (dec_lt y next) [
-      | yes h ↦ rw (lt-leb (base + next) (base + y) (omega arith), lt-leb next y h)
-      | no h ↦
-          let e : base + y - (base + next) ≡ y - next = omega arith in
-          rw (le-leb (base + next) (base + y) (omega arith), le-leb next y (omega arith), e)
     ]
 
 -- AN ELEMENT'S DATES
@@ -66,6 +57,6 @@ step_date Once x h = let m : x % most_bound ≡ x = mod-eq_of_lt h in rw m
 step_date (Every p) x h = refl
 
 -- below the bounds of the exact test, an element's test lengths are the dates from its first due length on
-pub test_date : (e : Element) (I : ℕ) → I < most_bound → is_test_of e I ≡ is_date (f e) (step_of e.period) I
+pub test_date : (e : Element) (I : ℕ) → I < most_bound → is_test_of e I ≡ is_date (place_of e) I
 unfolding is_test_of is_date
 test_date e I h = rw (step_date e.period (I - f e) (omega arith))

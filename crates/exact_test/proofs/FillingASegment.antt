@@ -1,179 +1,100 @@
 -- What holds whenever `fill` turns to the place i, from the first to past the last. Assumes nothing.
-use Prim.Native.Nat.{ℕ, ◌+◌, ◌-◌, ◌*◌, ◌≤◌, ◌<◌}
-use mathlib.Core.Path.{◌≡◌, refl, sym, ap, ◌∙◌}
-use mathlib.Core.List.{List}
+use Prim.Native.Nat.{ℕ, ◌+◌, ◌*◌, ◌≤◌, ◌<◌, min}
+use mathlib.Core.Path.{◌≡◌, refl, sym, ◌∙◌}
+use mathlib.Core.List.{List, []}
 use native.Mathlib.Decide.{dec_lt}
 use native.Mathlib.Omega.{arith}
-use lib.ListN.{length, get_or, set, length-set}
-use lib.Seq.{get_or-set_same, get_or-set_other}
+use lib.ListN.{length, get_or, set, take, length-set}
+use lib.Seq.{take_all, get_or-set_same, get_or-set_other}
 use borrow.Author.Count.{below_more}
-use Rattle.model.specs.Elements.{most_cost, places}
-use Rattle.places.specs.Columns.{most_bound}
-use Rattle.exact_test.specs.Segments.{is_date, most_next, IsWord, part, due_of, Marked, Added, Addable, Full, Zero}
-use Rattle.exact_test.proofs.DateLaws.{date_shift}
+use Rattle.model.specs.Elements.{most_cost}
+use Rattle.places.specs.declared.columns.Place.{Place}
+use Rattle.exact_test.specs.Segments.{IsWord, due_of, place_at, MovedOn, Fit, Added, Addable, Full, Zero}
 use Rattle.exact_test.proofs.SegmentLaws.{part_most, part_before, due_none, due_more}
 
 -- the first i places are added and have moved on, the others stand as they did
-pub record Filling (next₀ next step cost due marks : List ℕ) (n base len low seen i : ℕ) : Type 0 where
-  pub within : i ≤ n
-  pub each : (y : ℕ) → y < len → get_or due y 0 ≡ due_of next₀ step cost i (base + y)
+pub record Filling (rows₀ rows : List Place) (due : List ℕ) (base len low i : ℕ) : Type 0 where
+  pub long : length rows ≡ length rows₀
+  pub each : (y : ℕ) → y < len → get_or due y 0 ≡ due_of (take i rows₀) (base + y)
   pub rest : (y : ℕ) → len ≤ y → get_or due y 0 ≡ 0
   pub small : (y : ℕ) → get_or due y 0 ≤ i * most_cost
-  pub long : length next ≡ places
-  pub ahead : (k : ℕ) → i ≤ k → get_or next k 0 ≡ get_or next₀ k 0
-  pub same : (k : ℕ) → k < i → (I : ℕ) → base + len ≤ I → is_date (get_or next k 0) (get_or step k 0) I ≡ is_date (get_or next₀ k 0) (get_or step k 0) I
-  pub near : (k : ℕ) → k < i → get_or next k 0 ≤ most_next
-  pub least : (k : ℕ) → k < i → low ≤ get_or next k 0
+  pub ahead : (k : ℕ) → i ≤ k → place_at rows k ≡ place_at rows₀ k
+  pub moved : (k : ℕ) → k < i → MovedOn (place_at rows₀ k) (place_at rows k) (base + len)
+  pub least : (k : ℕ) → k < i → low ≤ (place_at rows k).next
   pub past : base + len ≤ low
-  pub marked : Marked due marks seen
 
--- the place i is added and has moved on to the date y
-pub record Moved (next step cost due next' due' marks' : List ℕ) (base len i seen' y : ℕ) : Type 0 where
-  pub r : ℕ
-  pub is : y ≡ base + r
-  pub added : Added due due' (get_or next i 0 - base) (get_or step i 0) (get_or cost i 0) len r
-  pub marked : Marked due' marks' seen'
-  pub here : get_or next' i 0 ≡ y
-  pub other : (k : ℕ) → (k ≡ i → ⊥) → get_or next' k 0 ≡ get_or next k 0
-  pub long : length next' ≡ places
-
--- a place with no date below len
-none_added : (due : List ℕ) (at step cost len : ℕ) → len ≤ at → Added due due at step cost len at
-none_added due at step cost len h =
+-- a place with no date below base + len
+pub none_added : (due : List ℕ) {p : Place} {base : ℕ} (len : ℕ) → Fit p base → base + len ≤ p.next → Added due due p p base len
+none_added due {p} {base} len fit h =
     record {
-      each = λ y u. omega (arith, part_before at step cost y (omega arith));
+      each = λ y u. omega (arith, part_before p (base + y) (omega arith));
       rest = λ y u. refl;
-      past = h;
-      same = λ y u. refl;
-      near = λ m u t. u;
+      moved = record {
+        kept = refl;
+        fit = record { from = h; near = fit.near; steps = fit.steps; costs = fit.costs };
+        same = λ I u. refl;
+      };
     }
 
-pub start :
-    {next step cost due marks : List ℕ} {n base len low : ℕ} →
-    Addable next step cost n base →
-    Zero due →
-    Marked due marks 0 →
-    base + len ≤ low →
-    Filling next next step cost due marks n base len low 0 0
-start {next} {step} {cost} {base} fit z m l =
+pub start : {rows : List Place} {due : List ℕ} {base len low : ℕ} → Zero due → base + len ≤ low → Filling rows rows due base len low 0
+start {rows} {base = base} z l =
     record {
-      within = omega arith;
-      each = λ y h. z y ∙ sym (due_none next step cost (base + y));
+      long = refl;
+      each = λ y h. z y ∙ sym (due_none rows (base + y));
       rest = λ y h. z y;
       small = λ y. omega (arith, z y);
-      long = fit.long;
       ahead = λ k h. refl;
-      same = λ k h. absurd (omega arith);
-      near = λ k h. absurd (omega arith);
+      moved = λ k h. absurd (omega arith);
       least = λ k h. absurd (omega arith);
       past = l;
-      marked = m;
     }
 
-module _ {next₀ next step cost due marks : List ℕ} {n base len low seen i : ℕ} (v : Filling next₀ next step cost due marks n base len low seen i) where
-  module _ (fit : Addable next₀ step cost n base) (b : base + len ≤ most_bound) (h : i < n) where
-    here : get_or next i 0 ≡ get_or next₀ i 0
+module _ {rows₀ rows : List Place} {due : List ℕ} {base len low i : ℕ} (v : Filling rows₀ rows due base len low i) where
+  module _ (fit : Addable rows₀ base) (h : i < length rows₀) where
+    here : place_at rows i ≡ place_at rows₀ i
     here = v.ahead i (omega arith)
 
-    pub from_base : base ≤ get_or next i 0
-    from_base = omega (arith, here, fit.from i h)
+    pub fits : Fit (place_at rows i) base
+    fits = rw here (fit.fit i h)
 
-    pub in_reach : get_or next i 0 - base ≤ most_next
-    in_reach = omega (arith, here, fit.near i h)
+    pub room : (y : ℕ) → IsWord (get_or due y 0 + (place_at rows i).cost)
+    room y = omega (arith, v.small y, fits.costs.1, fit.few)
 
-    pub room : (y : ℕ) → IsWord (get_or due y 0 + get_or cost i 0)
-    room y = omega (arith, v.small y, (fit.costs i h).1, fit.few)
-
-    pub near_past : {due' : List ℕ} {r : ℕ} → Added due due' (get_or next i 0 - base) (get_or step i 0) (get_or cost i 0) len r → base + r ≤ most_next
-    near_past a = omega (arith, a.near (most_next - base) (omega (arith, here, fit.near i h)) (omega (arith, (fit.steps i h).1)))
-
-    shift : (y : ℕ) → is_date (get_or next i 0 - base) (get_or step i 0) y ≡ is_date (get_or next₀ i 0) (get_or step i 0) (base + y)
-    shift y =
-        let e : base + (get_or next i 0 - base) ≡ get_or next₀ i 0 = omega (arith, here, from_base) in
-        sym (date_shift base (get_or next i 0 - base) (get_or step i 0) y) ∙ ap (λ z. is_date z (get_or step i 0) (base + y)) e
-
-    pub moved :
-        {due' marks' : List ℕ} {seen' r : ℕ} →
-        Added due due' (get_or next i 0 - base) (get_or step i 0) (get_or cost i 0) len r →
-        Marked due' marks' seen' →
-        Moved next step cost due (set next i (base + r)) due' marks' base len i seen' (base + r)
-    moved {r} a m =
+    pub next :
+        {due' : List ℕ} {p : Place} → Added due due' (place_at rows i) p base len →
+        Filling rows₀ (set rows i p) due' base len (min low p.next) (i + 1)
+    next {due'} {p} a =
+        let same = get_or-set_same rows i p (place_at [] 0) (omega (arith, v.long)) in
         record {
-          r = r;
-          is = refl;
-          added = a;
-          marked = m;
-          here = get_or-set_same next i (base + r) 0 (omega (arith, v.long, fit.few));
-          other = λ k q. get_or-set_other next i k (base + r) 0 q;
-          long = length-set next i (base + r) ∙ v.long;
+          long = length-set rows i p ∙ v.long;
+          each = λ y u. omega (arith, rw here at (a.each y u), v.each y u, due_more rows₀ i (base + y) h);
+          rest = λ y u. a.rest y u ∙ v.rest y u;
+          small = λ y.
+              elim (dec_lt y len) [
+                | yes u ↦
+                    let most = part_most (place_at rows i) (base + y) in
+                    omega (arith, a.each y u, v.small y, most, fits.costs.1)
+                | no u ↦ omega (arith, a.rest y (omega arith), v.small y)
+              ];
+          ahead = λ k u. get_or-set_other rows i k p _ (λ e. omega arith) ∙ v.ahead k (omega arith);
+          moved =
+              below_more _ i
+              (λ k u. rw (get_or-set_other rows i k p (place_at [] 0) (λ e. omega arith)) (v.moved k u))
+              (rw (same, ← here) a.moved);
+          least =
+              below_more _ i
+              (λ k u. rw (get_or-set_other rows i k p (place_at [] 0) (λ e. omega arith)) (omega (arith, v.least k u)))
+              (rw same (omega arith));
+          past = omega (arith, v.past, a.moved.fit.from);
         }
 
-    pub stays : base + len ≤ get_or next i 0 → Moved next step cost due next due marks base len i seen (get_or next i 0)
-    stays o =
-        record {
-          r = get_or next i 0 - base;
-          is = omega (arith, from_base);
-          added = none_added due (get_or next i 0 - base) (get_or step i 0) (get_or cost i 0) len (omega arith);
-          marked = v.marked;
-          here = refl;
-          other = λ k q. refl;
-          long = v.long;
-        }
-
-    module _ {next' due' marks' : List ℕ} {seen' y : ℕ} (a : Moved next step cost due next' due' marks' base len i seen' y) where
-      next_with : (low' : ℕ) → low' ≤ low → low' ≤ y → base + len ≤ low' → Filling next₀ next' step cost due' marks' n base len low' seen' (i + 1)
-      next_with low' l q w =
-          record {
-            within = omega arith;
-            each = λ x u.
-                let e :
-                part (get_or next i 0 - base) (get_or step i 0) (get_or cost i 0) x
-                ≡ part (get_or next₀ i 0) (get_or step i 0) (get_or cost i 0) (base + x) = rw (shift x) in
-                omega (arith, a.added.each x u, v.each x u, due_more next₀ step cost i (base + x));
-            rest = λ x u. a.added.rest x u ∙ v.rest x u;
-            small = λ x.
-                elim (dec_lt x len) [
-                  | yes u ↦
-                      let most = part_most (get_or next i 0 - base) (get_or step i 0) (get_or cost i 0) x in
-                      omega (arith, a.added.each x u, v.small x, most, (fit.costs i h).1)
-                  | no u ↦ omega (arith, a.added.rest x (omega arith), v.small x)
-                ];
-            long = a.long;
-            ahead = λ k u. a.other k (λ e. omega arith) ∙ v.ahead k (omega arith);
-            same =
-                below_more _ i
-                (λ k u I t. rw (a.other k (λ e. omega arith)) (v.same k u I t))
-                (λ I t.
-                let e : base + (I - base) ≡ I = omega arith in
-                let s = date_shift base a.r (get_or step i 0) (I - base) ∙ a.added.same (I - base) (omega arith) ∙ shift (I - base) in
-                rw (a.here, a.is) (rw e at s));
-            near =
-                below_more _ i
-                (λ k u. rw (a.other k (λ e. omega arith)) (v.near k u))
-                (rw (a.here, a.is) (near_past a.added));
-            least =
-                below_more _ i
-                (λ k u. rw (a.other k (λ e. omega arith)) (omega (arith, v.least k u)))
-                (rw a.here q);
-            past = w;
-            marked = a.marked;
-          }
-
-      pub next_lower : y < low → Filling next₀ next' step cost due' marks' n base len y seen' (i + 1)
-      next_lower o = next_with y (omega arith) (omega arith) (omega (arith, a.added.past, a.is))
-
-      pub next_same : low ≤ y → Filling next₀ next' step cost due' marks' n base len low seen' (i + 1)
-      next_same o = next_with low (omega arith) o v.past
-
-  pub end : n ≤ i → Full next₀ next step cost due n base len low
+  pub end : length rows₀ ≤ i → Full rows₀ rows due base len low
   end h =
-      let e : i ≡ n = omega (arith, v.within) in
       record {
         long = v.long;
-        each = λ y u. rw e at (v.each y u);
+        each = λ y u. rw (take_all i rows₀ h) at (v.each y u);
         rest = v.rest;
-        same = λ k u. v.same k (omega arith);
-        near = λ k u. v.near k (omega arith);
+        moved = λ k u. v.moved k (omega arith);
         least = λ k u. v.least k (omega arith);
         past = v.past;
       }

@@ -1,7 +1,7 @@
 -- The contract of `exact`: the code keeps it, and no two outcomes satisfy it. Assumes nothing.
 use mathlib.Core.Path.{◌≡◌, sym, ◌∙◌}
 use Rattle.model.specs.declared.elements.TaskSet.{TaskSet}
-use Rattle.model.specs.declared.answers.Answer.{Answer}
+use Rattle.model.specs.Answers.{Answer}
 use Rattle.model.specs.Promises.{Promises}
 use Rattle.exact_test.specs.FunctionContracts.{ExactSays}
 use Rattle.exact_test.specs.contracts

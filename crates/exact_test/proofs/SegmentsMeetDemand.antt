@@ -1,29 +1,28 @@
--- How a segment meets the definitions: it begins empty, laid places fit, and what they add is the cost due. Assumes nothing.
+-- How a segment meets the definitions: it begins empty, the places of a legal set fit, and what they add is the cost due. Assumes nothing.
 use Prim.Native.Nat.{ℕ, zero, suc, ◌+◌, ◌*◌, ◌≤◌, ◌<◌}
-use mathlib.Core.Path.{◌≡◌, refl, sym, ◌∙◌}
-use mathlib.Core.Bool.{Bool, cond}
-use mathlib.Core.List.{List, [], ◌∷◌}
+use mathlib.Core.Path.{◌≡◌, refl, sym, ap₂}
+use mathlib.Core.Bool.{Bool}
+use mathlib.Core.List.{List, [], ◌∷◌, map}
 use mathlib.Core.Logic.{⊎_elim}
-use native.Mathlib.Decide.{dec_lt}
 use native.Mathlib.Nat.{zero-add}
 use native.Mathlib.Omega.{arith}
 use lib.Dec.{ltb}
 use lib.ListN.{length, get_or, replicate, length-replicate}
 use borrow.Author.Tests.{lt-ltb}
+use Rattle.std.proofs.lemmas.List.{get_or-map}
+use Rattle.std.proofs.lemmas.Nat.Bits.{bit_at-zero}
 use Rattle.model.specs.declared.elements.Element.{Element}
-use Rattle.model.specs.declared.elements.TaskSet.{TaskSet}
 use Rattle.model.specs.Over.{sum_over, some_over, Each}
-use Rattle.model.specs.Elements.{most_cost, places, AllLegal, counted}
+use Rattle.model.specs.Elements.{most_cost, places, AllLegal, filler}
 use Rattle.model.specs.Demand.{is_test_of, is_test}
 use Rattle.model.proofs.Cases.{test}
+use Rattle.model.proofs.OverLaws.{each_at}
 use Rattle.model.proofs.ElementLaws.{Legal, all_legal}
 use Rattle.theory.specs.Growth.{cost_of, due_at}
-use Rattle.theory.specs.Places.{element_at}
-use Rattle.places.specs.Columns.{most_bound}
-use Rattle.places.proofs.ColumnLaws.{step_within, Laid}
-use Rattle.exact_test.specs.Segments.{is_date, ticks, due_of, Marked, Addable, Full, total, Zero}
-use Rattle.theory.proofs.PlaceLaws.{LegalPlaces, sum_places, sum_to_same}
-use Rattle.exact_test.proofs.BitLaws.{bit_zero}
+use Rattle.places.specs.declared.columns.Place.{Place}
+use Rattle.places.specs.Columns.{most_bound, place_of}
+use Rattle.places.proofs.ColumnLaws.{step_within}
+use Rattle.exact_test.specs.Segments.{is_date, ticks, due_of, place_at, Marked, Fit, Addable, Full, total, Zero}
 use Rattle.exact_test.proofs.DateLaws.{test_date}
 use Rattle.exact_test.proofs.SegmentLaws.{due_most, total_most}
 
@@ -39,38 +38,45 @@ none_marked =
       due_long = length-replicate {A = ℕ} ticks 0;
       marks_long = length-replicate {A = ℕ} 64 0;
       fits = λ k. omega (arith, none_zero 64 k);
-      bits = λ k i h l. rw (none_zero 64 k, none_zero ticks (k * 64 + i)) (bit_zero i);
+      bits = λ k i h l. rw (none_zero 64 k, none_zero ticks (k * 64 + i)) (bit_at-zero i);
       words = λ k i h l p. absurd (omega (arith, none_zero ticks (k * 64 + i)));
     }
 
--- LAID PLACES, from length 1 on
-module _ (t : TaskSet) (next step cost : List ℕ) (laid : Laid t next step cost) (set : LegalPlaces t) where
-  pub laid_fit : Addable next step cost t.count 1
-  laid_fit =
-      record {
-        few = set.few;
-        long = laid.long;
-        from = λ i l. omega (arith, laid.nexts i l, (set.legal i l).deadline.0);
-        near = λ i l. omega (arith, laid.nexts i l, (set.legal i l).offset.1, (set.legal i l).deadline.1);
-        steps = λ i l. rw (laid.steps i l) (step_within (element_at t i).period (set.legal i l).period);
-        costs = λ i l. rw (laid.costs i l) (set.legal i l).cost;
-      }
+-- FROM base ON and below the bound, the dates of the place are the test lengths of the element
+pub record Follows (base bound : ℕ) (e : Element) (p : Place) : Type 0 where
+  pub dates : (I : ℕ) → base ≤ I → I < bound → is_test_of e I ≡ is_date p I
+  pub cost : p.cost ≡ e.cost
 
-  pub laid_dates :
-      (i : ℕ) → i < t.count → (I : ℕ) → I < most_bound → is_test_of (element_at t i) I ≡ is_date (get_or next i 0) (get_or step i 0) I
-  laid_dates i l I b = rw (laid.nexts i l, laid.steps i l) (test_date (element_at t i) I b)
+-- the elements as places, from length 1 on
+module _ (s : List Element) (i : ℕ) (h : i < length s) where
+  placed : place_at (map place_of s) i ≡ place_of (get_or s i filler)
+  placed = get_or-map place_of s i filler (place_at [] 0) h
+
+  pub placed_fit : AllLegal s → Fit (place_at (map place_of s) i) 1
+  placed_fit legal =
+      let e = each_at Legal s i filler h (all_legal s legal) in
+      rw placed (record {
+        from = omega (arith, e.deadline.0);
+        near = omega (arith, e.offset.1, e.deadline.1);
+        steps = step_within (get_or s i filler).period e.period;
+        costs = e.cost;
+      })
+
+  pub placed_follows : {bound : ℕ} → bound ≤ most_bound → Follows 1 bound (get_or s i filler) (place_at (map place_of s) i)
+  placed_follows b = rw placed (record { dates = λ I l u. test_date (get_or s i filler) I (omega arith); cost = refl })
 
 -- WHAT THE PLACES ADD is the cost due, where their dates are the test lengths
 pub due_is :
-    (t : TaskSet) (next step cost : List ℕ) (I : ℕ) →
-    t.count ≤ length t.table →
-    ((i : ℕ) → i < t.count → is_test_of (element_at t i) I ≡ is_date (get_or next i 0) (get_or step i 0) I) →
-    ((i : ℕ) → i < t.count → get_or cost i 0 ≡ (element_at t i).cost) →
-    due_of next step cost t.count I ≡ due_at (counted t) I
-unfolding due_of cost_of
-due_is t next step cost I few dates costs =
-    sum_to_same _ (λ i. cond (is_test_of (element_at t i) I) (element_at t i).cost 0) t.count (λ i l. rw (dates i l, costs i l))
-    ∙ sum_places t.table (λ e. cond (is_test_of e I) e.cost 0) t.count few
+    {base bound : ℕ} (s : List Element) (rows : List Place) → length rows ≡ length s →
+    ((i : ℕ) → i < length s → Follows base bound (get_or s i filler) (place_at rows i)) →
+    (I : ℕ) → base ≤ I → I < bound → due_of rows I ≡ due_at s I
+unfolding due_of cost_of sum_over
+due_is [] [] long rows I b l = refl
+due_is [] (p ∷ ps) long rows I b l = absurd (omega arith)
+due_is (e ∷ s) [] long rows I b l = absurd (omega arith)
+due_is (e ∷ s) (p ∷ ps) long rows I b l =
+    let h = rows 0 (omega arith) in
+    ap₂ ◌+◌ (rw (h.dates I b l, h.cost)) (due_is s ps (omega arith) (λ i u. rows (suc i) (omega arith)) I b l)
 
 -- a cost is due exactly at the test lengths
 some_cost : (s : List Element) (pass : Element → Bool) → Each s Legal → some_over s pass ≡ ltb 0 (cost_of s pass)
@@ -86,14 +92,10 @@ unfolding is_test
 test_due s I legal = some_cost s (λ e. is_test_of e I) (all_legal s legal)
 
 -- HOW MUCH a segment holds
-module _ {next₀ next step cost due : List ℕ} {n base len low : ℕ} (fit : Addable next₀ step cost n base)
-    (full : Full next₀ next step cost due n base len low) where
-  entry_most : (y : ℕ) → get_or due y 0 ≤ places * most_cost
-  entry_most y =
-      elim (dec_lt y len) [
-        | yes h ↦ omega (arith, full.each y h, due_most next₀ step cost n (base + y) most_cost (λ i l. (fit.costs i l).1), fit.few)
-        | no h ↦ omega (arith, full.rest y (omega arith))
-      ]
-
-  pub total_full : length due ≡ ticks → total due ≤ ticks * (places * most_cost)
-  total_full long = rw long at (total_most due (places * most_cost) entry_most)
+pub total_full :
+    {rows₀ rows : List Place} {due : List ℕ} {base len low : ℕ} → Addable rows₀ base → Full rows₀ rows due base len low →
+    total due ≤ len * (places * most_cost)
+total_full {rows₀} {rows} {due} {base} {len} fit full =
+    total_most due len (places * most_cost)
+    (λ y h. omega (arith, full.each y h, due_most rows₀ (base + y) most_cost (λ i l. (fit.fit i l).costs.1), fit.few))
+    full.rest

@@ -8,19 +8,24 @@ mod segments;
 
 use lengths::compare_lengths;
 use load::{Loaded, load_of};
-use model::{Answer, TaskSet};
+use model::{LegalSet, Refusal, TaskSet, Verdict};
 
 // A refusal by 3 to 8, or the verdict: the test lengths below F + H are compared.
-pub fn exact(set: TaskSet) -> Answer
+pub fn exact(set: TaskSet) -> Result<Verdict, Refusal>
     ensures { ExactSays set result }
 {
-    match load_of(set) {
-        Loaded::Refused(r) => Answer::Refused(r),
-        Loaded::AboveOne(verdict) => Answer::Given(verdict),
+    let loaded = load_of(set)?;
+    match loaded {
+        Loaded::AboveOne(verdict) => Ok(verdict),
         Loaded::AtMostOne {
             first,
             hyperperiod,
-            load: _,
-        } => Answer::Given(compare_lengths(set, first + hyperperiod)),
+            ..
+        } => {
+            let legal = LegalSet {
+                elements: set.counted(),
+            };
+            Ok(compare_lengths(legal, first + hyperperiod))
+        }
     }
 }

@@ -1,3 +1,5 @@
 pub mod FindingH
+pub mod ListLaws
 pub mod LoadedLaws
+pub mod Rules
 pub mod Outcomes

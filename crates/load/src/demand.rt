@@ -1,7 +1,7 @@
 // Document 01, "Demand": H and F of a legal set, and D by division.
 ghost use Rattle.std.specs.Prelude.{◌≤◌, ◌≡◌, true};
 ghost use Rattle.model.specs.Number.{gcd as the_gcd};
-ghost use Rattle.model.specs.Elements.{most_h, is_legal, is_period, counted, is_legal_set};
+ghost use Rattle.model.specs.Elements.{most_h, is_legal, is_period};
 ghost use Rattle.model.specs.Demand.{F, joined as the_joined, demand_of, D};
 ghost use Rattle.theory.specs.Sizes.{most_length};
 ghost use Rattle.load.specs.Load.{hyperperiod_of};
@@ -9,31 +9,25 @@ ghost use Rattle.load.specs.FunctionContracts.{DemandAtSays};
 
 use model::checks::check_set;
 use model::elements::{MOST_HYPERPERIOD, first_due};
-use model::{Check, Element, Period, TaskSet};
+use model::{Element, LegalSet, Period, Reason, Refusal, TaskSet};
 
 // No test asks for the demand of a longer one.
 const MOST_LENGTH: u64 = 4_294_967_296;
 
-#[derive(Clone, Copy)]
-pub(crate) enum LeastMultiple {
-    Above(usize),
-    Within(u64),
-}
-
 // Euclid's steps.
+#[tactic(auto, using(crate::proofs::Rules::of_gcd))]
 fn gcd(a: u64, b: u64) -> u64
     ensures { result ≡ the_gcd a b }
 {
     let mut x = a;
     let mut y = b;
     while y != 0 {
-        let rest = x % y;
-        x = y;
-        y = rest;
+        (x, y) = (y, x % y);
     }
     x
 }
 
+#[tactic(auto, using(crate::proofs::Rules::of_joined))]
 fn joined(period: Period, h: u64) -> u64
     requires period_legal { is_period period ≡ true }
     requires h_small { h ≤ most_h }
@@ -42,50 +36,41 @@ fn joined(period: Period, h: u64) -> u64
     match period {
         Period::Once => h,
         Period::Every(p) => {
-            let p = p as u64;
+            let p = u64::from(p);
             p / gcd(p, h) * h
         }
     }
 }
 
-// H, or the first place that brings it above its limit.
-pub(crate) fn hyperperiod(set: TaskSet) -> LeastMultiple
-    requires { is_legal_set set ≡ true }
-    ensures { result ≡ hyperperiod_of (counted set) }
+// H; or 8, at the first place that brings it above its limit.
+#[tactic(auto, using(crate::proofs::Rules::of_hyperperiod))]
+pub(crate) fn hyperperiod(set: LegalSet) -> Result<u64, Refusal>
+    ensures { result ≡ hyperperiod_of set.entry.elements.now }
 {
-    let count = set.count;
     let mut h: u64 = 1;
-    let mut i: usize = 0;
-    while i < count {
-        let e = set.table[i];
-        let period = e.period;
-        h = joined(period, h);
+    for (i, e) in set.elements.iter().enumerate() {
+        h = joined(e.period, h);
         if MOST_HYPERPERIOD < h {
-            return LeastMultiple::Above(i);
+            return Err(Refusal {
+                reason: Reason::HyperperiodAboveLimit,
+                place: i,
+            });
         }
-        i = i + 1;
     }
-    LeastMultiple::Within(h)
+    Ok(h)
 }
 
-pub(crate) fn largest_first(set: TaskSet) -> u64
-    requires { is_legal_set set ≡ true }
-    ensures { result ≡ F (counted set) }
+pub(crate) fn largest_first(set: LegalSet) -> u64
+    ensures { result ≡ F set.entry.elements.now }
 {
-    let count = set.count;
-    let mut largest: u64 = 0;
-    let mut i: usize = 0;
-    while i < count {
-        let e = set.table[i];
-        let first = first_due(e);
-        if largest < first {
-            largest = first;
-        }
-        i = i + 1;
-    }
-    largest
+    set.elements
+        .iter()
+        .map(|e| first_due(*e))
+        .max()
+        .unwrap_or(0)
 }
 
+#[tactic(auto, using(crate::proofs::Rules::of_demand_of))]
 fn demand_of(e: Element, length: u64) -> u64
     requires legal { is_legal e ≡ true }
     requires short { length ≤ most_length }
@@ -95,40 +80,30 @@ fn demand_of(e: Element, length: u64) -> u64
     if length < first {
         return 0;
     }
-    let cost = e.cost as u64;
-    let period = e.period;
-    match period {
+    let cost = u64::from(e.cost);
+    match e.period {
         Period::Once => cost,
-        Period::Every(p) => ((length - first) / (p as u64) + 1) * cost,
+        Period::Every(p) => ((length - first) / u64::from(p) + 1) * cost,
     }
 }
 
-// D of a legal set.
-pub(crate) fn demand_in(set: TaskSet, length: u64) -> u64
-    requires legal { is_legal_set set ≡ true }
-    requires short { length ≤ most_length }
-    ensures { result ≡ D (counted set) length }
+pub(crate) fn demand_in(set: LegalSet, length: u64) -> u64
+    requires { length ≤ most_length }
+    ensures { result ≡ D set.entry.elements.now length }
 {
-    let count = set.count;
-    let mut demand: u64 = 0;
-    let mut i: usize = 0;
-    while i < count {
-        let e = set.table[i];
-        demand = demand + demand_of(e, length);
-        i = i + 1;
-    }
-    demand
+    set.elements.iter().map(|e| demand_of(*e, length)).sum()
 }
 
 // D at a length of up to 2^32 ticks, of a set that is legal; 0 of any other, or past that.
+#[tactic(auto, using(crate::proofs::Rules::of_demand_at))]
 pub fn demand_at(set: TaskSet, length: u64) -> u64
     ensures { DemandAtSays set length result }
 {
-    let Check::Fine = check_set(set) else {
-        return 0;
-    };
-    if MOST_LENGTH < length {
+    if check_set(set).is_err() || MOST_LENGTH < length {
         return 0;
     }
+    let set = LegalSet {
+        elements: set.counted(),
+    };
     demand_in(set, length)
 }

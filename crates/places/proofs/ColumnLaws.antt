@@ -4,17 +4,15 @@ use mathlib.Core.Path.{◌≡◌, sym, ap, ◌∙◌}
 use mathlib.Core.List.{List, ◌∷◌, ◌++◌, map}
 use native.Mathlib.Omega.{arith}
 use native.Mathlib.Numerals.{add-one}
-use lib.ListN.{length, length-map, get_or, set, take, drop, get_or-append}
-use Rattle.std.proofs.Common.{length-append, length-drop, append_assoc}
-use Rattle.std.proofs.lemmas.List.{map_more, get_or-map}
-use lib.Seq.{length-take-le, take-append_seam, drop-cons, set-append_seam}
+use lib.ListN.{length, length-map, get_or, set, take, drop}
+use Rattle.std.proofs.Common.{append_assoc}
+use Rattle.std.proofs.lemmas.List.{append-nil, map_more}
+use Rattle.std.proofs.Math.Seq.{take-length}
+use lib.Seq.{length-take-le, drop-cons, drop-length, set-append_seam}
 use Rattle.model.specs.declared.elements.Period.{Period}
 use Rattle.model.specs.declared.elements.Period.TheVariants.{Once, Every}
-use Rattle.model.specs.declared.elements.TaskSet.{TaskSet}
-use Rattle.model.specs.Elements.{places, filler, counted}
-use Rattle.model.proofs.ElementLaws.{Within, Runs, counted_long, counted_at}
-use Rattle.theory.specs.Places.{element_at}
-use Rattle.theory.proofs.PlaceLaws.{LegalPlaces}
+use Rattle.model.specs.declared.elements.Element.{Element}
+use Rattle.model.proofs.ElementLaws.{Within, Runs}
 use Rattle.places.specs.declared.columns.Place.{Place}
 use Rattle.places.specs.Columns.{most_bound, step_of, place_of, laid}
 
@@ -23,29 +21,11 @@ pub step_within : (q : Period) → Runs q → Within 1 most_bound (step_of q)
 step_within Once h = (omega arith, omega arith)
 step_within (Every p) h = (h.0, omega arith)
 
--- each counted place has its row
-pub record Laid (t : TaskSet) (rows : List Place) : Type 0 where
-  pub long : length rows ≡ places
-  pub at : (d : Place) (i : ℕ) → i < t.count → get_or rows i d ≡ place_of (element_at t i)
-
-pub laid_rows : (t : TaskSet) → LegalPlaces t → (before rows : List Place) → length before ≡ places → rows ≡ laid t before → Laid t rows
+-- as many rows as elements
+pub laid_all : (s : List Element) (rows : List Place) → length rows ≡ length s → laid s rows ≡ map place_of s
 unfolding laid
-laid_rows t p before rows long e =
-    let all = counted_long t p.long p.few in
-    let size = length-map (counted t) place_of in
-    record {
-      long = ap length e ∙ length-append (map place_of (counted t)) (drop (length (counted t)) before)
-          ∙ omega (arith, size, length-drop (length (counted t)) before, p.short);
-      at = λ d i h.
-          rw (e, get_or-append (map place_of (counted t)) (drop (length (counted t)) before) d i (omega (arith, size, all)))
-          (get_or-map place_of (counted t) i filler d (omega (arith, all)) ∙ ap place_of (counted_at t p.long p.few filler i h));
-    }
-
--- the counted rows as one list
-pub laid_front : (t : TaskSet) (before : List Place) → take (length (counted t)) (laid t before) ≡ map place_of (counted t)
-unfolding laid
-laid_front t before =
-    rw (← (length-map (counted t) place_of)) (take-append_seam (map place_of (counted t)) (drop (length (map place_of (counted t))) before))
+laid_all s rows long =
+    rw (long, take-length s, ← long, drop-length rows) (append-nil (map place_of s))
 
 -- LAYING, row by row
 pub laid_more :

@@ -1,10 +1,8 @@
 -- The places of a set as numbers: a row for each place.
-use Rattle.std.specs.Prelude.{ℕ, List, ◌++◌, map, length, drop}
+use Rattle.std.specs.Prelude.{ℕ, List, ◌++◌, map, length, take, drop}
 use Rattle.model.specs.declared.elements.Period.{Period}
 use Rattle.model.specs.declared.elements.Period.TheVariants.{Once, Every}
 use Rattle.model.specs.declared.elements.Element.{Element}
-use Rattle.model.specs.declared.elements.TaskSet.{TaskSet}
-use Rattle.model.specs.Elements.{counted}
 use Rattle.model.specs.Demand.{f}
 use Rattle.places.specs.declared.columns.Place.{Place}
 
@@ -24,6 +22,6 @@ step_in e = step_of e.period
 abbrev pub place_of : Element → Place
 place_of e = record { next = f e; step = step_in e; cost = e.cost }
 
--- rows with that of each counted place put from their start on; other places stay
-unfoldable pub laid : TaskSet → List Place → List Place
-laid t rows = map place_of (counted t) ++ drop (length (counted t)) rows
+-- rows with that of each element put from their start on, as many as there are rows; other rows stay
+unfoldable pub laid : List Element → List Place → List Place
+laid s rows = map place_of (take (length rows) s) ++ drop (length s) rows

@@ -1,13 +1,12 @@
 -- The contracts of this crate's public functions: what each says of what it was given, of what it returns, r, and of the rows after it.
 use Rattle.std.specs.Prelude.{◌≡◌, List}
 use Rattle.model.specs.declared.elements.Element.{Element}
-use Rattle.model.specs.declared.elements.TaskSet.{TaskSet}
 use Rattle.places.specs.declared.columns.Place.{Place}
 use Rattle.places.specs.Columns.{place_of, laid}
 
 abbrev pub PlaceOfSays : Element → Place → Type 0
 PlaceOfSays e r = r ≡ place_of e
 
--- of a set and the rows
-abbrev pub LaySays : TaskSet → List Place → List Place → Type 0
-LaySays t rows rows' = rows' ≡ laid t rows
+-- of the elements and the rows
+abbrev pub LaySays : List Element → List Place → List Place → Type 0
+LaySays s rows rows' = rows' ≡ laid s rows

@@ -3,8 +3,8 @@ ghost use Rattle.std.specs.Prelude.{◌≡◌};
 ghost use Rattle.places.specs.Columns.{step_of};
 ghost use Rattle.places.specs.FunctionContracts.{PlaceOfSays, LaySays};
 
-use model::elements::{PLACES, first_due};
-use model::{Element, Period, TaskSet};
+use model::elements::first_due;
+use model::{Element, Period};
 
 // What a place has for its next length when none is left.
 pub const NONE_LEFT: u64 = 0xffff_ffff_ffff_ffff;
@@ -41,12 +41,13 @@ pub fn place_of(e: Element) -> Place
     }
 }
 
-// Lays out each counted place; other places stay.
+// Lays out the elements, as many as there are rows; other rows stay.
 #[tactic(auto, unfolding(crate::specs::Columns::laid))]
-pub fn lay(set: TaskSet, places: &mut [Place; PLACES])
-    ensures { LaySays set places.old places.new }
+pub fn lay(elements: &[Element], places: &mut [Place])
+    ensures { LaySays elements.now places.old places.new }
 {
-    for (i, e) in set.counted().iter().enumerate() {
+    let n = elements.len().min(places.len());
+    for (i, e) in elements[..n].iter().enumerate() {
         places[i] = place_of(*e);
     }
 }

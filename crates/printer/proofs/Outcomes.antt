@@ -2,20 +2,21 @@
 use Prim.Native.Nat.{ℕ}
 use mathlib.Core.Path.{◌≡◌, sym, ◌∙◌}
 use mathlib.Core.List.{List}
-use Rattle.model.specs.declared.answers.Answer.{Answer}
+use Rattle.model.specs.Answers.{Answer}
 use Rattle.model.specs.Promises.{Promises}
+use Rattle.printer.specs.declared.answers.Lines.{Lines}
 use Rattle.printer.specs.FunctionContracts.{PutAnswersSays}
 use Rattle.printer.specs.contracts
 use Rattle.printer.proofs.answers
 
 pub put_answers_keeps :
     Promises contracts.answers.put_answers.ended answers.put_answers.Symbol.code answers.put_answers.Symbol.name (λ κs given r after.
-    PutAnswersSays given.0 given.1.0 given.1.1.0 given.1.1.1.0 given.1.1.1.1.0.now r after.1.1.1.1.0.now)
+    PutAnswersSays given.0 given.1.0.now r after.1.0.now)
 put_answers_keeps = record { met = λ M. answers.put_answers.Met.met }
 
 pub answers_are_decided :
-    (e a b c : Answer) (out : List ℕ) (m n : ℕ) (x y : List ℕ) →
-    PutAnswersSays e a b c out m x →
-    PutAnswersSays e a b c out n y →
+    (a : Lines Answer) (out : List ℕ) (m n : ℕ) (x y : List ℕ) →
+    PutAnswersSays a out m x →
+    PutAnswersSays a out n y →
     (m ≡ n) × (x ≡ y)
-answers_are_decided e a b c out m n x y p q = (p.0 ∙ sym q.0, p.1 ∙ sym q.1)
+answers_are_decided a out m n x y p q = (p.0 ∙ sym q.0, p.1 ∙ sym q.1)

@@ -1,28 +1,29 @@
 -- Document 01, "The verdict printer": the text of its four answers.
-use Rattle.std.specs.Prelude.{ℕ, List, ◌++◌}
-use Rattle.model.specs.declared.answers.Answer.{Answer}
-use Rattle.model.specs.declared.answers.Answer.TheVariants.{Refused, Given}
-use Rattle.model.specs.declared.answers.Values.{Values}
-use Rattle.model.specs.Answers.{values}
-use Rattle.printer.specs.declared.answers.Shown.{Shown}
-use Rattle.printer.specs.declared.answers.Shown.TheVariants.{Refusal, Lines}
-use Rattle.printer.specs.Text.{exact_name, k_name, line, refused_line}
+use Rattle.std.specs.Prelude.{ℕ, List, ◌++◌, codes, Result, Ok, Err}
+use Rattle.model.specs.declared.answers.Refusal.{Refusal}
+use Rattle.model.specs.declared.answers.Verdict.{Verdict}
+use Rattle.model.specs.Answers.{Answer}
+use Rattle.printer.specs.declared.answers.Lines.{Lines}
+use Rattle.printer.specs.Text.{k_name, verdict_line, refused_line}
 
 -- "It prints a line for the exact test and for k = 1, 2 and 100"
-unfoldable pub lines : Values → Values → Values → Values → List ℕ
-lines exact one two hundred = line exact_name exact ++ line (k_name 1) one ++ line (k_name 2) two ++ line (k_name 100) hundred
+unfoldable pub lines : Lines Verdict → List ℕ
+lines v = verdict_line (codes "exact") v.exact ++ verdict_line (k_name 1) v.one ++ verdict_line (k_name 2) v.two ++ verdict_line (k_name 100) v.hundred
 
 -- "On a refusal it prints one line": the first answer that is a refusal decides
-unfoldable pub shown_of : Answer → Answer → Answer → Answer → Shown
-shown_of (Refused r) one two hundred = Refusal r
-shown_of (Given e) (Refused r) two hundred = Refusal r
-shown_of (Given e) (Given a) (Refused r) hundred = Refusal r
-shown_of (Given e) (Given a) (Given b) (Refused r) = Refusal r
-shown_of (Given e) (Given a) (Given b) (Given c) = Lines e a b c
+unfoldable pub first_refusal : Answer → Answer → Answer → Answer → Result (Lines Verdict) Refusal
+first_refusal (Err r) one two hundred = Err r
+first_refusal (Ok e) (Err r) two hundred = Err r
+first_refusal (Ok e) (Ok a) (Err r) hundred = Err r
+first_refusal (Ok e) (Ok a) (Ok b) (Err r) = Err r
+first_refusal (Ok e) (Ok a) (Ok b) (Ok c) = Ok (record { exact = e; one = a; two = b; hundred = c })
 
-abbrev pub text_of : Shown → List ℕ
-text_of (Refusal r) = refused_line r
-text_of (Lines e a b c) = lines (values e) (values a) (values b) (values c)
+abbrev pub shown_of : Lines Answer → Result (Lines Verdict) Refusal
+shown_of a = first_refusal a.exact a.one a.two a.hundred
 
-unfoldable pub printed_of : Answer → Answer → Answer → Answer → List ℕ
-printed_of exact one two hundred = text_of (shown_of exact one two hundred)
+abbrev pub text_of : Result (Lines Verdict) Refusal → List ℕ
+text_of (Ok verdicts) = lines verdicts
+text_of (Err r) = refused_line r
+
+unfoldable pub printed_of : Lines Answer → List ℕ
+printed_of answers = text_of (shown_of answers)

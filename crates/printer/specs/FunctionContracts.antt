@@ -1,9 +1,10 @@
 -- The contract of `put_answers`: what it says of four answers and a lent buffer, of what it returns, r, and of the buffer after it.
-use Rattle.std.specs.Prelude.{ℕ, ◌≡◌, List, length}
-use Rattle.model.specs.declared.answers.Answer.{Answer}
+use Rattle.std.specs.Prelude.{ℕ, ◌≡◌, ◌≤◌, List, length}
+use Rattle.model.specs.Answers.{Answer}
 use Rattle.model.specs.Buffers.{over}
+use Rattle.printer.specs.declared.answers.Lines.{Lines}
 use Rattle.printer.specs.Answered.{printed_of}
 
-abbrev pub PutAnswersSays : Answer → Answer → Answer → Answer → List ℕ → ℕ → List ℕ → Type 0
-PutAnswersSays exact one two hundred out r after =
-    (r ≡ length (printed_of exact one two hundred)) × (after ≡ over (printed_of exact one two hundred) out)
+abbrev pub PutAnswersSays : Lines Answer → List ℕ → ℕ → List ℕ → Type 0
+PutAnswersSays answers out r after =
+    (r ≡ length (printed_of answers)) × (after ≡ over (printed_of answers) out) × (r ≤ 356)

@@ -1,4 +1,4 @@
 pub mod Text
 pub mod Answered
-pub mod Putting
+pub mod Growing
 pub mod FunctionContracts

@@ -1,37 +1,31 @@
 -- Document 01, "The verdict printer": the bytes of its lines, in ASCII.
-use Rattle.std.specs.Prelude.{ℕ, suc, ◌^◌, List, [], ◌∷◌, ◌++◌, ltb}
-use Rattle.io.specs.Digits.{last_digits}
+use Rattle.std.specs.Prelude.{ℕ, List, [], ◌∷◌, ◌++◌, flat_map, codes}
+use Rattle.std.specs.Fmt.{decimal}
 use Rattle.model.specs.declared.answers.Refusal.{Refusal}
-use Rattle.model.specs.declared.answers.Values.{Values}
-use Rattle.model.specs.Number.{least}
-
--- a number in decimal, of the fewest digits: 20 are enough for 64 bits
-unfoldable pub decimal : ℕ → List ℕ
-decimal n = last_digits 10 (suc (least (λ k. ltb n (10 ^ suc k)) 19)) n
+use Rattle.model.specs.declared.answers.Verdict.{Verdict}
+use Rattle.model.specs.Answers.{number_of, values}
 
 -- a number after a blank
-unfoldable pub field : ℕ → List ℕ
+abbrev pub field : ℕ → List ℕ
 field n = 32 ∷ decimal n
 
 abbrev pub newline : List ℕ
 newline = 10 ∷ []
 
--- exact
-abbrev pub exact_name : List ℕ
-exact_name = 101 ∷ 120 ∷ 97 ∷ 99 ∷ 116 ∷ []
+-- a name and numbers
+unfoldable pub line : List ℕ → List ℕ → List ℕ
+line name numbers = name ++ flat_map field numbers ++ newline
 
 -- k= and the number
 abbrev pub k_name : ℕ → List ℕ
-k_name k = 107 ∷ 61 ∷ decimal k
+k_name k = codes "k=" ++ decimal k
 
 -- "name, verdict, interval, demand, count"
-unfoldable pub line : List ℕ → Values → List ℕ
-line name v = name ++ field v.verdict ++ field v.interval ++ field v.demand ++ field v.count ++ newline
-
--- refused
-abbrev pub refused_name : List ℕ
-refused_name = 114 ∷ 101 ∷ 102 ∷ 117 ∷ 115 ∷ 101 ∷ 100 ∷ []
+abbrev pub verdict_line : List ℕ → Verdict → List ℕ
+verdict_line name verdict =
+    let v = values verdict in
+    line name (v.verdict ∷ v.interval ∷ v.demand ∷ v.count ∷ [])
 
 -- ""refused", number, place"
-unfoldable pub refused_line : Refusal → List ℕ
-refused_line r = refused_name ++ field r.number ++ field r.place ++ newline
+abbrev pub refused_line : Refusal → List ℕ
+refused_line r = line (codes "refused") (number_of r.reason ∷ r.place ∷ [])

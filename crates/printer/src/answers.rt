@@ -1,88 +1,73 @@
 // The text of four answers.
-ghost use Rattle.std.specs.Prelude.{◌≤◌, ◌≡◌, length};
-ghost use Rattle.model.specs.Answers.{values};
-ghost use Rattle.printer.specs.Putting.{Puts};
+ghost use Rattle.std.specs.Prelude.{◌+◌, ◌≤◌, ◌≡◌, length};
 ghost use Rattle.printer.specs.Answered.{lines, shown_of};
+ghost use Rattle.printer.specs.Growing.{Grows};
 ghost use Rattle.printer.specs.FunctionContracts.{PutAnswersSays};
+ghost use Rattle.printer.specs.Text.{verdict_line, refused_line};
 
-use crate::fields::{put_line, put_refused};
-use model::{Answer, Refusal, Verdict};
+use crate::text::{ROOM, Text, push_line};
+use model::{Refusal, Values, Verdict};
 
-// No text is longer than 356 bytes.
-pub const ROOM: usize = 512;
-
+// What stands for each line: the exact test's, and those of k = 1, 2 and 100.
 #[derive(Clone, Copy)]
-enum Shown {
-    Refusal(Refusal),
-    Lines {
-        exact: Verdict,
-        one: Verdict,
-        two: Verdict,
-        hundred: Verdict,
-    },
-}
-
-fn put_lines(out: &mut [u8], exact: Verdict, one: Verdict, two: Verdict, hundred: Verdict) -> usize
-    requires { 356 ≤ length out.old }
-    ensures { Puts (lines (values exact) (values one) (values two) (values hundred)) out.old 0 out.new result }
-{
-    let first = put_line(out, 0, b"exact", exact);
-    let second = put_line(out, first, b"k=1", one);
-    let third = put_line(out, second, b"k=2", two);
-    put_line(out, third, b"k=100", hundred)
+pub struct Lines<T> {
+    pub exact: T,
+    pub one: T,
+    pub two: T,
+    pub hundred: T,
 }
 
 // The first refusal decides.
-#[tactic(auto, unfolding(crate::specs::Answered::shown_of))]
-fn shown_of(exact: Answer, one: Answer, two: Answer, hundred: Answer) -> Shown
-    ensures { result ≡ shown_of exact one two hundred }
+#[tactic(auto, unfolding(crate::specs::Answered::first_refusal))]
+fn shown_of(answers: Lines<Result<Verdict, Refusal>>) -> Result<Lines<Verdict>, Refusal>
+    ensures { result ≡ shown_of answers }
 {
-    let e = match exact {
-        Answer::Refused(r) => {
-            return Shown::Refusal(r);
-        }
-        Answer::Given(v) => v,
-    };
-    let a = match one {
-        Answer::Refused(r) => {
-            return Shown::Refusal(r);
-        }
-        Answer::Given(v) => v,
-    };
-    let b = match two {
-        Answer::Refused(r) => {
-            return Shown::Refusal(r);
-        }
-        Answer::Given(v) => v,
-    };
-    match hundred {
-        Answer::Refused(r) => Shown::Refusal(r),
-        Answer::Given(c) => Shown::Lines {
-            exact: e,
-            one: a,
-            two: b,
-            hundred: c,
-        },
-    }
+    Ok(Lines {
+        exact: answers.exact?,
+        one: answers.one?,
+        two: answers.two?,
+        hundred: answers.hundred?,
+    })
+}
+
+fn push_refusal(text: &mut Text, r: Refusal)
+    requires { length text.old.bytes + 50 ≤ 512 }
+    ensures { Grows 50 (refused_line r) text.old.bytes text.new.bytes }
+{
+    push_line(
+        text,
+        "refused",
+        &[u64::from(u32::from(r.reason)), r.place as u64],
+    );
+}
+
+fn push_verdict(text: &mut Text, name: &str, verdict: Verdict)
+    requires { length text.old.bytes + (length name.now + 85) ≤ 512 }
+    ensures { Grows (length name.now + 85) (verdict_line name.now verdict) text.old.bytes text.new.bytes }
+{
+    let v = Values::from(verdict);
+    push_line(text, name, &[v.verdict, v.interval, v.demand, v.count]);
+}
+
+fn push_verdicts(text: &mut Text, verdicts: Lines<Verdict>)
+    requires { length text.old.bytes + 356 ≤ 512 }
+    ensures { Grows 356 (lines verdicts) text.old.bytes text.new.bytes }
+{
+    push_verdict(text, "exact", verdicts.exact);
+    push_verdict(text, "k=1", verdicts.one);
+    push_verdict(text, "k=2", verdicts.two);
+    push_verdict(text, "k=100", verdicts.hundred);
 }
 
 // Puts the text of the answers of the exact test and of k = 1, 2 and 100 at the start of out, and answers how many bytes that are.
-pub fn put_answers(
-    exact: Answer,
-    one: Answer,
-    two: Answer,
-    hundred: Answer,
-    out: &mut [u8; ROOM],
-) -> usize
-    ensures { PutAnswersSays exact one two hundred out.old result out.new }
+pub fn put_answers(answers: Lines<Result<Verdict, Refusal>>, out: &mut [u8; ROOM]) -> usize
+    ensures { PutAnswersSays answers out.old result out.new }
 {
-    match shown_of(exact, one, two, hundred) {
-        Shown::Refusal(r) => put_refused(out, r),
-        Shown::Lines {
-            exact,
-            one,
-            two,
-            hundred,
-        } => put_lines(out, exact, one, two, hundred),
+    let mut text = Text::new();
+    match shown_of(answers) {
+        Ok(verdicts) => push_verdicts(&mut text, verdicts),
+        Err(refusal) => push_refusal(&mut text, refusal),
     }
+    out[..text.len()].copy_from_slice(text.as_bytes());
+    text.len()
 }

@@ -2,6 +2,7 @@
 #![tactic(auto)]
 
 pub mod answers;
-mod fields;
+mod text;
 
-pub use answers::{ROOM, put_answers};
+pub use answers::{Lines, put_answers};
+pub use text::ROOM;

@@ -1,44 +1,36 @@
--- What holds whenever `least` turns to the place i, with b the least so far. Assumes nothing.
-use Prim.Native.Nat.{ℕ, ◌+◌, ◌≤◌, ◌<◌}
-use mathlib.Core.Path.{◌≡◌, refl}
-use mathlib.Core.List.{List}
-use native.Mathlib.Nat.{le_refl}
+-- What the least of the next lengths is. Assumes nothing.
+use Prim.Native.Nat.{ℕ, zero, suc, ◌≤◌, ◌<◌, min}
+use mathlib.Core.Path.{◌≡◌}
+use mathlib.Core.List.{List, [], ◌∷◌}
+use mathlib.Core.Logic.{⊎_elim}
 use native.Mathlib.Omega.{arith}
-use borrow.Author.Count.{below_more}
-use lib.ListN.{get_or}
-use Rattle.superposition_test.specs.Walk.{none, Least}
+use lib.ListN.{length, get_or}
+use Rattle.std.specs.List.{fold}
+use Rattle.model.specs.Over.{Each}
+use Rattle.model.proofs.Cases.{lt_or_le}
+use Rattle.superposition_test.specs.declared.walk.Row.{Row}
 
-pub record Seeking (xs : List ℕ) (n i b : ℕ) : Type 0 where
-  pub upto : i ≤ n
-  pub best : Least xs i b
+abbrev pub least_from : ℕ → List Row → ℕ
+least_from b rows = fold (λ best r. min best r.place.next) b rows
 
-pub start : (xs : List ℕ) (n : ℕ) → Seeking xs n 0 none
-start xs n = record {
-  upto = omega arith;
-  best = record { below = λ i l. omega arith; top = le_refl none; attained = λ l. absurd (omega arith) };
-}
+-- some row has this length for its next
+abbrev pub Attained : List Row → ℕ → Type 0
+Attained rows at = (i : ℕ) × (i < length rows) × ((d : Row) → (get_or rows i d).place.next ≡ at)
 
-module _ (xs : List ℕ) (n i b : ℕ) (k : Seeking xs n i b) where
-  pub end : n ≤ i → Least xs n b
-  end h = let e : i ≡ n = omega arith in rw (← e) k.best
+least_below_start : (b : ℕ) (rows : List Row) → least_from b rows ≤ b
+least_below_start b [] = omega arith
+least_below_start b (r ∷ rows) = omega (arith, least_below_start (min b r.place.next) rows)
 
-  module _ (h : i < n) where
-    pub keep : b ≤ get_or xs i 0 → Seeking xs n (i + 1) b
-    keep l = record {
-      upto = omega arith;
-      best = record {
-        below = below_more _ i k.best.below l;
-        top = k.best.top;
-        attained = λ g. let a = k.best.attained g in (a.0, omega arith, a.2);
-      };
-    }
+pub least_below : (b : ℕ) (rows : List Row) → Each rows (λ r. least_from b rows ≤ r.place.next)
+least_below b [] = tt
+least_below b (r ∷ rows) = (omega (arith, least_below_start (min b r.place.next) rows), least_below (min b r.place.next) rows)
 
-    pub take : get_or xs i 0 < b → Seeking xs n (i + 1) (get_or xs i 0)
-    take l = record {
-      upto = omega arith;
-      best = record {
-        below = below_more _ i (λ j g. omega (arith, k.best.below j g)) (le_refl (get_or xs i 0));
-        top = omega (arith, k.best.top);
-        attained = λ _. (i, omega arith, refl);
-      };
-    }
+pub least_attained : (b : ℕ) (rows : List Row) → least_from b rows < b → Attained rows (least_from b rows)
+least_attained b [] h = absurd (omega arith)
+least_attained b (r ∷ rows) h = ⊎_elim
+    (λ (l : least_from (min b r.place.next) rows < min b r.place.next).
+    let w = least_attained (min b r.place.next) rows l in (suc w.0, omega (arith, w.1), w.2))
+    (λ (l : min b r.place.next ≤ least_from (min b r.place.next) rows).
+    let same : r.place.next ≡ least_from (min b r.place.next) rows = omega (arith, least_below_start (min b r.place.next) rows) in
+    (zero, omega arith, λ d. same))
+    (lt_or_le (least_from (min b r.place.next) rows) (min b r.place.next))

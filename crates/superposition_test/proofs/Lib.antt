@@ -1,7 +1,7 @@
 pub mod LeastLaws
-pub mod LimitLaws
 pub mod MoveLaws
 pub mod NextLaws
+pub mod Outcomes
+pub mod RowLaws
 pub mod VisitLaws
 pub mod WalkLaws
-pub mod Outcomes

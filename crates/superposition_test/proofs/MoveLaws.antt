@@ -1,113 +1,85 @@
--- What holds whenever `move_on` turns to the place i. Assumes nothing.
-use Prim.Native.Nat.{ℕ, ◌+◌, ◌*◌, ◌≤◌, ◌<◌}
-use mathlib.Core.Path.{◌≡◌, refl, ap, ◌∙◌}
-use mathlib.Core.Bool.{true, cond}
-use mathlib.Core.List.{List}
+-- What holds whenever `move_on` turns to the row i. Assumes nothing.
+use Prim.Native.Nat.{ℕ, suc, ◌+◌, ◌*◌, ◌≤◌, ◌<◌, min}
+use mathlib.Core.Path.{◌≡◌, sym, ap, ◌∙◌}
+use mathlib.Core.List.{List, ◌∷◌, ◌++◌, map}
 use native.Mathlib.Omega.{arith}
-use borrow.Author.Count.{below_more}
-use borrow.Author.Tests.{lt-ltb, le-ltb, eq-eqb, ne_eqb}
-use lib.Dec.{eqb}
-use lib.ListN.{length, get_or, set, length-set}
-use lib.Seq.{get_or-set_same, get_or-set_other}
-use Rattle.model.specs.Elements.{most_cost, places}
-use Rattle.theory.specs.Places.{sum_to}
-use Rattle.superposition_test.specs.Walk.{none, most_rise, Movable, on_from, rise_from, MovedOn}
-use Rattle.theory.proofs.PlaceLaws.{sum_to_next}
+use lib.ListN.{length, length-map, get_or, set, take, drop}
+use lib.Seq.{length-take-le, drop-cons, get_or-append_seam}
+use Rattle.std.proofs.lemmas.List.{map_more}
+use Rattle.std.specs.List.{sum_by}
+use Rattle.std.proofs.lemmas.List.Sums.{sum_by_more, fold_push}
+use Rattle.model.specs.Elements.{most_cost}
+use Rattle.model.proofs.OverLaws.{each_at}
+use Rattle.places.proofs.ColumnLaws.{laid_more}
+use Rattle.superposition_test.specs.declared.walk.Row.{Row}
+use Rattle.superposition_test.specs.Walk.{none, unused, most_rise, Small, Movable, least_next, moved_on, due_in, rise_in}
 
-module _ (next₀ step cost last rise : List ℕ) (n at : ℕ) where
-  -- the place i: its next length after, the cost that it adds, the slope that it adds
-  abbrev next_at : ℕ → ℕ
-  next_at i = cond (eqb (get_or next₀ i 0) at) (on_from at (get_or step i 0) (get_or last i 0)) (get_or next₀ i 0)
+pub record Moving (before : List Row) (at : ℕ) (rows : List Row) (i cost rise next : ℕ) : Type 0 where
+  pub fit : Movable before at
+  pub moved : rows ≡ map (moved_on at) (take i before) ++ drop i before
+  pub due : cost ≡ sum_by (due_in at) (take i before)
+  pub slope : rise ≡ sum_by (rise_in at) (take i before)
+  pub least : next ≡ least_next (map (moved_on at) (take i before))
+  pub due_small : cost ≤ i * most_cost
+  pub slope_small : rise ≤ i * most_rise
 
-  abbrev cost_at : ℕ → ℕ
-  cost_at i = cond (eqb (get_or next₀ i 0) at) (get_or cost i 0) 0
+-- WHAT A ROW ADDS
+pub record Changed (at : ℕ) (r r' : Row) (cost cost' rise rise' : ℕ) : Type 0 where
+  pub row : r' ≡ moved_on at r
+  pub due : cost' ≡ cost + due_in at r
+  pub slope : rise' ≡ rise + rise_in at r
 
-  abbrev rise_at : ℕ → ℕ
-  rise_at i = cond (eqb (get_or next₀ i 0) at) (rise_from at (get_or last i 0) (get_or rise i 0)) 0
+module _ (at cost rise : ℕ) (r : Row) where
+  -- one that has another length
+  pub stays : (r.place.next ≡ at → ⊥) → Changed at r r cost cost rise rise
+  stays o = record { row = grind arith; due = grind arith; slope = grind arith }
 
-  pub record Moving (next : List ℕ) (i due slope : ℕ) : Type 0 where
-    pub fit : Movable next₀ step cost rise n at
-    pub upto : i ≤ n
-    pub long : length next ≡ places
-    pub done : (j : ℕ) → j < i → get_or next j 0 ≡ next_at j
-    pub rest : (j : ℕ) → i ≤ j → get_or next j 0 ≡ get_or next₀ j 0
-    pub dues : due ≡ sum_to cost_at i
-    pub slopes : slope ≡ sum_to rise_at i
-    pub due_small : due ≤ i * most_cost
-    pub slope_small : slope ≤ i * most_rise
+  -- one with a length further on
+  pub goes_on :
+      r.place.next ≡ at → at < r.last → Changed at r (record r { place = record r.place { next = at + r.place.step } }) cost (cost + r.place.cost) rise rise
+  goes_on o b = record { row = grind arith; due = grind arith; slope = grind arith }
 
-  pub start : Movable next₀ step cost rise n at → Moving next₀ 0 0 0
-  unfolding sum_to
-  start fit = record {
-    fit = fit;
-    upto = omega arith;
-    long = fit.long;
-    done = λ j l. absurd (omega arith);
-    rest = λ j l. refl;
-    dues = refl;
-    slopes = refl;
-    due_small = omega arith;
-    slope_small = omega arith;
-  }
+  -- one with none left
+  pub goes_out :
+      r.place.next ≡ at → r.last ≤ at → Changed at r (record r { place = record r.place { next = none } }) cost (cost + r.place.cost) rise (rise + r.rise)
+  goes_out o b = record { row = grind arith; due = grind arith; slope = grind arith }
 
-  module _ (next : List ℕ) (i due slope : ℕ) (w : Moving next i due slope) where
-    pub end : n ≤ i → MovedOn next₀ next step cost last rise n at (record { cost = due; rise = slope })
-    end h =
-        let e : i ≡ n = omega arith in
-        record {
-          long = w.long;
-          nexts = λ j l. w.done j (omega arith);
-          due = w.dues ∙ ap (sum_to cost_at) e;
-          slope = w.slopes ∙ ap (sum_to rise_at) e;
-        }
+due_part : (r : Row) (at : ℕ) → due_in at r ≤ r.place.cost
+due_part r at = grind arith
 
-    module _ (h : i < n) where
-      -- a place that has another length
-      pub stays : (get_or next i 0 ≡ at → ⊥) → Moving next (i + 1) due slope
-      stays o =
-          let m = ne_eqb (get_or next₀ i 0) at (λ e. o (w.rest i (omega arith) ∙ e)) in
-          record {
-            fit = w.fit;
-            upto = omega arith;
-            long = w.long;
-            done = below_more _ i w.done (rw m (w.rest i (omega arith)));
-            rest = λ j l. w.rest j (omega arith);
-            dues = rw (sum_to_next cost_at i, m) (omega (arith, w.dues));
-            slopes = rw (sum_to_next rise_at i, m) (omega (arith, w.slopes));
-            due_small = omega (arith, w.due_small);
-            slope_small = omega (arith, w.slope_small);
-          }
+rise_part : (r : Row) (at : ℕ) → rise_in at r ≤ r.rise
+rise_part r at = grind arith
 
-      module _ (o : get_or next i 0 ≡ at) where
-        has : eqb (get_or next₀ i 0) at ≡ true
-        has = eq-eqb (get_or next₀ i 0) at (omega (arith, w.rest i (omega arith)))
+module _ {before : List Row} {at : ℕ} {rows : List Row} {i cost rise next : ℕ} (w : Moving before at rows i cost rise next) (l : i < length before) where
+  abbrev front : List Row
+  front = map (moved_on at) (take i before)
 
-        goes :
-            (a b : ℕ) → a ≡ on_from at (get_or step i 0) (get_or last i 0) → b ≡ rise_from at (get_or last i 0) (get_or rise i 0) → b ≤ most_rise →
-            Moving (set next i a) (i + 1) (due + get_or cost i 0) (slope + b)
-        goes a b p q u = record {
-          fit = w.fit;
-          upto = omega arith;
-          long = length-set next i a ∙ w.long;
-          done = below_more _ i
-              (λ j l. get_or-set_other next i j a 0 (omega arith) ∙ w.done j l)
-              (rw has (get_or-set_same next i a 0 (omega (arith, w.fit.few, w.long)) ∙ p));
-          rest = λ j l. get_or-set_other next i j a 0 (omega arith) ∙ w.rest j (omega arith);
-          dues = rw (sum_to_next cost_at i, has) (omega (arith, w.dues));
-          slopes = rw (sum_to_next rise_at i, has) (omega (arith, w.slopes, q));
-          due_small = omega (arith, w.due_small, w.fit.costs i h);
-          slope_small = omega (arith, w.slope_small, u);
-        }
+  -- the row at hand
+  abbrev row : Row
+  row = get_or rows i unused
 
-        -- a place with a length further on
-        pub goes_on : at < get_or last i 0 → Moving (set next i (at + get_or step i 0)) (i + 1) (due + get_or cost i 0) slope
-        goes_on l =
-            let m = lt-ltb at (get_or last i 0) l in
-            let z : slope + 0 ≡ slope = omega arith in
-            rw z at (goes (at + get_or step i 0) 0 (rw m) (rw m) (omega arith))
+  here : row ≡ get_or before i unused
+  here =
+      let size : length front ≡ i = length-map (take i before) (moved_on at) ∙ length-take-le i before (omega arith) in
+      rw (w.moved, drop-cons before i unused l) (
+      ap (λ n. get_or (front ++ get_or before i unused ∷ drop (suc i) before) n unused) (sym size)
+      ∙ get_or-append_seam front (get_or before i unused) (drop (suc i) before) unused
+      )
 
-        -- a place with none left
-        pub goes_out : get_or last i 0 ≤ at → Moving (set next i none) (i + 1) (due + get_or cost i 0) (slope + get_or rise i 0)
-        goes_out l =
-            let m = le-ltb at (get_or last i 0) l in
-            goes none (get_or rise i 0) (rw m) (rw m) (w.fit.rises i h)
+  pub small : Small row
+  small = rw here (each_at Small before i unused l w.fit.small)
+
+  -- one row more
+  pub turn : {r : Row} {cost' rise' : ℕ} → Changed at row r cost cost' rise rise' → Moving before at (set rows i r) (i + 1) cost' rise' (min next r.place.next)
+  turn {r} {cost'} {rise'} c =
+      record {
+        fit = w.fit;
+        moved = rw (c.row, here, w.moved) (laid_more (moved_on at) before before i unused l l);
+        due = c.due ∙ rw here (omega (arith, sum_by_more (due_in at) before i unused l, w.due));
+        slope = c.slope ∙ rw here (omega (arith, sum_by_more (rise_in at) before i unused l, w.slope));
+        least =
+            rw (c.row, here, w.least, map_more (moved_on at) before i unused l)
+            (sym (fold_push (λ best r. min best r.place.next) none front (moved_on at (get_or before i unused))));
+        due_small = omega (arith, w.due_small, c.due, due_part row at, small.cost);
+        slope_small = omega (arith, w.slope_small, c.slope, rise_part row at, small.rise);
+      }

@@ -1,18 +1,19 @@
 -- The next length that the walk holds for one element, from one length to the next. Assumes nothing.
 use Prim.Native.Nat.{ℕ, suc, ◌+◌, ◌-◌, ◌≤◌, ◌<◌}
-use mathlib.Core.Path.{◌≡◌, refl, sym, ◌∙◌}
-use mathlib.Core.Bool.{Bool, true, false, cond, and-true, and-false}
+use mathlib.Core.Path.{◌≡◌, refl}
+use mathlib.Core.Bool.{true, false, cond}
 use mathlib.Core.Logic.{⊎_elim}
 use native.Mathlib.Omega.{arith}
 use native.Mathlib.Nat.{lt_of_mul-lt-mul_left, mul-le-mul_right}
-use lib.Dec.{leb, eqb}
-use borrow.Author.Tests.{lt-ltb, le-ltb, le-leb, lt-leb, leb-true, eq-eqb, ne_eqb}
+use lib.Dec.{eqb}
+use borrow.Author.Tests.{lt-ltb, le-ltb}
+use Rattle.std.proofs.lemmas.Bool.{false_from_ne_true}
 use Rattle.model.specs.declared.elements.Period.{Period}
 use Rattle.model.specs.declared.elements.Period.TheVariants.{Once, Every}
 use Rattle.model.specs.declared.elements.Element.{Element}
-use Rattle.model.specs.Demand.{f, is_test_of}
+use Rattle.model.specs.Demand.{f}
 use Rattle.model.specs.Superposition.{exact_part, m}
-use Rattle.model.proofs.Cases.{test, lt_or_le, and_both, and_left, and_right}
+use Rattle.model.proofs.Cases.{lt_or_le}
 use Rattle.model.proofs.ElementLaws.{Runs, Legal}
 use Rattle.theory.specs.TestLengths.{IsDate}
 use Rattle.theory.specs.Growth.{is_visited_by, is_last_by}
@@ -20,22 +21,18 @@ use Rattle.theory.proofs.DemandLaws.{date_from, test_of}
 use Rattle.places.specs.Columns.{step_of}
 use Rattle.superposition_test.specs.Walk.{none, on_from, rise_from}
 
-no_rise : (b : Bool) → ◌≡◌ {A = ℕ} (cond b 0 0) 0
-no_rise true = refl
-no_rise false = refl
-
 module _ (k : ℕ) (e : Element) where
   visited_low : (I : ℕ) → is_visited_by k I e ≡ true → I ≤ m k e
-  visited_low I t = leb-true I (m k e) (and_right (is_test_of e I) (leb I (m k e)) t)
+  visited_low I t = grind arith
 
   visited_date : (I : ℕ) → is_visited_by k I e ≡ true → IsDate e.period (f e) I
-  visited_date I t = (test_of e I).0 (and_left (is_test_of e I) (leb I (m k e)) t)
+  visited_date I t = (test_of e I).0 (grind arith)
 
   is_visited_lem : (I : ℕ) → IsDate e.period (f e) I → I ≤ m k e → is_visited_by k I e ≡ true
-  is_visited_lem I d l = and_both (is_test_of e I) (leb I (m k e)) ((test_of e I).1 d) (le-leb I (m k e) l)
+  is_visited_lem I d l = let t = (test_of e I).1 d in grind arith
 
   not_visited : (I : ℕ) → (IsDate e.period (f e) I → I ≤ m k e → ⊥) → is_visited_by k I e ≡ false
-  not_visited I o = ⊎_elim (λ t. absurd (o (visited_date I t) (visited_low I t))) (λ t. t) (test (is_visited_by k I e))
+  not_visited I o = false_from_ne_true (is_visited_by k I e) (λ t. o (visited_date I t) (visited_low I t))
 
   pub not_at_zero : Legal e → is_visited_by k 0 e ≡ false
   not_at_zero g = not_visited 0 (λ d l. omega (arith, g.deadline.0, date_from e.period (f e) 0 d))
@@ -101,13 +98,7 @@ module _ (k : ℕ) (e : Element) where
   -- WHAT IT HAS AT A LENGTH up to its next
   module _ (x n : ℕ) (w : NextOf x n) (y : ℕ) (l : x < y) (u : y ≤ n) (b : y < none) where
     pub next_visits : eqb n y ≡ is_visited_by k y e
-    next_visits = ⊎_elim
-        (λ (h : y < n). ne_eqb n y (λ eq. omega arith) ∙ sym (w.gap y l h))
-        (λ (h : n ≤ y). let eq : n ≡ y = omega arith in eq-eqb n y eq ∙ sym (rw eq at (w.here (omega arith))))
-        (lt_or_le y n)
+    next_visits = grind (arith, w.gap y l, w.here)
 
     pub next_rises : (r : ℕ) → cond (eqb n y) (rise_from y (m k e) r) 0 ≡ cond (is_last_by k y e) r 0
-    next_rises r = rw next_visits (⊎_elim
-        (λ (h : y < m k e). rw (lt-ltb y (m k e) h, lt-leb (m k e) y h, and-false (is_visited_by k y e)) (no_rise (is_visited_by k y e)))
-        (λ (h : m k e ≤ y). rw (le-ltb y (m k e) h, le-leb (m k e) y h, and-true (is_visited_by k y e)))
-        (lt_or_le y (m k e)))
+    next_rises r = grind (arith, next_visits)

@@ -1,98 +1,93 @@
--- The next lengths of all places: the least of them is the next that the set visits, and what moves on there. Assumes nothing.
+-- The rows of all elements: the least of their next lengths is the next that the set visits, and what moves on there. Assumes nothing.
 use Prim.Native.Nat.{ℕ, ◌≤◌, ◌<◌}
-use mathlib.Core.Path.{◌≡◌, ◌∙◌}
+use mathlib.Core.Path.{◌≡◌}
 use mathlib.Core.Bool.{true, false, cond}
-use mathlib.Core.List.{List}
+use mathlib.Core.List.{List, map}
 use mathlib.Core.Logic.{⊎_elim}
 use native.Mathlib.Omega.{arith}
 use borrow.Author.Tests.{eq-eqb, ne_eqb}
-use lib.ListN.{get_or}
+use lib.ListN.{length, get_or}
+use Rattle.std.specs.List.{AllZip, sum_by}
+use Rattle.std.proofs.lemmas.Bool.{false_from_ne_true}
+use Rattle.std.proofs.lemmas.Slice.Zip.{AllZip-long}
 use Rattle.model.specs.declared.elements.Element.{Element}
-use Rattle.model.specs.declared.elements.TaskSet.{TaskSet}
-use Rattle.model.specs.Over.{sum_over}
-use Rattle.model.specs.Elements.{filler, counted}
+use Rattle.model.specs.Over.{sum_over, Each}
+use Rattle.model.specs.Elements.{filler}
 use Rattle.model.specs.Demand.{H}
 use Rattle.model.specs.Superposition.{m, is_visited}
-use Rattle.model.proofs.Cases.{test, clash, lt_or_le}
-use Rattle.model.proofs.OverLaws.{some_at, at_some}
-use Rattle.model.proofs.ElementLaws.{counted_long, counted_at}
+use Rattle.model.proofs.Cases.{clash, lt_or_le}
+use Rattle.model.proofs.OverLaws.{some_at, at_some, each_at}
+use Rattle.model.proofs.ElementLaws.{Legal}
 use Rattle.theory.specs.Growth.{cost_of, is_visited_by, visited_due_at, is_last_by, rise_of}
-use Rattle.superposition_test.specs.declared.walk.Moved.{Moved}
-use Rattle.theory.specs.Places.{element_at, sum_to}
-use Rattle.places.specs.Columns.{step_of}
-use Rattle.superposition_test.specs.Walk.{none, Least, MovedOn}
-use Rattle.theory.proofs.PlaceLaws.{LegalPlaces, sum_places, sum_to_same}
+use Rattle.places.specs.Columns.{step_in}
+use Rattle.superposition_test.specs.declared.walk.Row.{Row}
+use Rattle.superposition_test.specs.Walk.{none, unused, moved_on, due_in, rise_in}
+use Rattle.superposition_test.proofs.LeastLaws.{least_from, Attained, least_below, least_attained}
 use Rattle.superposition_test.proofs.NextLaws.{NextOf, next_miss, next_hit, next_visits, next_rises}
+use Rattle.superposition_test.proofs.RowLaws.{zip_at, zip_map, zip_sum}
 
--- what stays the same of each place
-pub record Columns (t : TaskSet) (k : ℕ) (step cost last rise : List ℕ) : Type 0 where
-  pub steps : (i : ℕ) → i < t.count → get_or step i 0 ≡ step_of (element_at t i).period
-  pub costs : (i : ℕ) → i < t.count → get_or cost i 0 ≡ (element_at t i).cost
-  pub lasts : (i : ℕ) → i < t.count → get_or last i 0 ≡ m k (element_at t i)
-  pub rises : (i : ℕ) → i < t.count → get_or rise i 0 ≡ rise_of (H (counted t)) (element_at t i)
+-- what a row holds of its element, past x
+pub record Holds (k h x : ℕ) (e : Element) (r : Row) : Type 0 where
+  pub legal : Legal e
+  pub step : r.place.step ≡ step_in e
+  pub cost : r.place.cost ≡ e.cost
+  pub last : r.last ≡ m k e
+  pub rise : r.rise ≡ rise_of h e
+  pub next : NextOf k e x r.place.next
 
--- each place has its next length after x
-abbrev pub Nexts : TaskSet → ℕ → ℕ → List ℕ → Type 0
-Nexts t k x next = (i : ℕ) → i < t.count → NextOf k (element_at t i) x (get_or next i 0)
+abbrev pub Held : ℕ → List Element → ℕ → List Row → Type 0
+Held k s x rows = AllZip (Holds k (H s) x) s rows
 
-module _ (t : TaskSet) (p : LegalPlaces t) (k : ℕ) where
-  -- the set visits a length where a place does
-  place_visits : (I i : ℕ) → i < t.count → is_visited_by k I (element_at t i) ≡ true → is_visited k (counted t) I ≡ true
+module _ (s : List Element) (k : ℕ) where
+  pub visits_place : (I : ℕ) → is_visited k s I ≡ true → (i : ℕ) × (i < length s) × (is_visited_by k I (get_or s i filler) ≡ true)
   unfolding is_visited
-  place_visits I i l v =
-      at_some (counted t) (is_visited_by k I) filler i (omega (arith, counted_long t p.long p.few))
-      (rw (counted_at t p.long p.few filler i l) v)
+  visits_place I v = some_at s (is_visited_by k I) filler v
 
-  pub visits_place : (I : ℕ) → is_visited k (counted t) I ≡ true → (i : ℕ) × (i < t.count) × (is_visited_by k I (element_at t i) ≡ true)
-  unfolding is_visited
-  visits_place I v =
-      let w = some_at (counted t) (is_visited_by k I) filler v in
-      let l : w.0 < t.count = omega (arith, w.1, counted_long t p.long p.few) in
-      (w.0, l, rw (counted_at t p.long p.few filler w.0 l) at w.2)
+  module _ (x at : ℕ) (rows : List Row) (held : Held k s x rows) (l : at ≡ least_from none rows) where
+    below : Each rows (λ r. at ≤ r.place.next)
+    below = rw l (least_below none rows)
 
-  sum_of_places :
-      (g : ℕ → ℕ) (q : Element → ℕ) → ((i : ℕ) → i < t.count → g i ≡ q (element_at t i)) → sum_to g t.count ≡ sum_over (counted t) q
-  sum_of_places g q h =
-      sum_to_same g (λ i. q (element_at t i)) t.count h ∙ sum_places t.table q t.count (omega (arith, p.few, p.long))
-
-  module _ (x at : ℕ) (next : List ℕ) (nexts : Nexts t k x next) (l : Least next t.count at) where
-    pub quiet : (I : ℕ) → x < I → I < at → is_visited k (counted t) I ≡ false
-    quiet I a b = ⊎_elim
-        (λ v. let w = visits_place I v in
-        absurd (clash w.2 ((nexts w.0 w.1).gap I a (omega (arith, l.below w.0 w.1)))))
-        (λ v. v)
-        (test (is_visited k (counted t) I))
+    pub quiet : (I : ℕ) → x < I → I < at → is_visited k s I ≡ false
+    quiet I a b = false_from_ne_true (is_visited k s I) (λ v.
+        let w = visits_place I v in
+        let n = zip_at (Holds k (H s) x) s rows w.0 filler unused held w.1 in
+        let u = each_at (λ r. at ≤ r.place.next) rows w.0 unused (omega (arith, w.1, AllZip-long (Holds k (H s) x) s rows held)) below in
+        clash w.2 (n.next.gap I a (omega (arith, u))))
 
     module _ (b : at < none) where
-      one : (i : ℕ) × (i < t.count) × NextOf k (element_at t i) x at
-      one = let a = l.attained b in (a.0, a.1, rw a.2 at (nexts a.0 a.1))
+      -- the element whose next length it is
+      one : (i : ℕ) × (i < length s) × NextOf k (get_or s i filler) x at
+      one =
+          let a : Attained rows (least_from none rows) = least_attained none rows (rw l at b) in
+          let i : a.0 < length s = omega (arith, a.1, AllZip-long (Holds k (H s) x) s rows held) in
+          (a.0, i, rw (a.2 unused, ← l) at (zip_at (Holds k (H s) x) s rows a.0 filler unused held i).next)
 
       pub at_later : x < at
       at_later = one.2.later
 
-      pub at_visited : is_visited k (counted t) at ≡ true
-      at_visited = place_visits at one.0 one.1 (one.2.here b)
+      pub at_visited : is_visited k s at ≡ true
+      unfolding is_visited
+      at_visited = at_some s (is_visited_by k at) filler one.0 one.1 (one.2.here b)
 
-      module _
-          {step cost last rise next' : List ℕ} {r : Moved} (c : Columns t k step cost last rise)
-          (w : MovedOn next next' step cost last rise t.count at r) where
-        pub moved_nexts : Nexts t k at next'
-        moved_nexts i h =
-            let e = element_at t i in
-            let n = get_or next i 0 in
-            rw (w.nexts i h, c.steps i h, c.lasts i h) (⊎_elim
-            (λ (a : at < n). rw (ne_eqb n at (λ q. omega arith)) (next_miss k e x at n (nexts i h) (omega (arith, at_later)) a))
-            (λ (a : n ≤ at).
-            let q : n ≡ at = omega (arith, l.below i h) in
-            rw (eq-eqb n at q) (next_hit k e x at (p.legal i h) (rw q at (nexts i h)) b))
-            (lt_or_le at n))
+      next_moves : (e : Element) (r : Row) → Holds k (H s) x e r → at ≤ r.place.next → NextOf k e at (moved_on at r).place.next
+      next_moves e r w u =
+          let n = r.place.next in
+          rw (w.step, w.last) (⊎_elim
+          (λ (a : at < n). rw (ne_eqb n at (λ q. omega arith)) (next_miss k e x at n w.next (omega (arith, at_later)) a))
+          (λ (a : n ≤ at).
+          let q : n ≡ at = omega arith in
+          rw (eq-eqb n at q) (next_hit k e x at w.legal (rw q at w.next) b))
+          (lt_or_le at n))
 
-        pub moved_due : r.cost ≡ visited_due_at k (counted t) at
-        unfolding cost_of
-        moved_due = w.due ∙ sum_of_places _ (λ e. cond (is_visited_by k at e) e.cost 0) (λ i h.
-            rw (c.costs i h, next_visits k (element_at t i) x (get_or next i 0) (nexts i h) at at_later (l.below i h) b))
+      pub moved_rows : Held k s at (map (moved_on at) rows)
+      moved_rows = zip_map (Holds k (H s) x) (Holds k (H s) at) (λ r. at ≤ r.place.next) (moved_on at) s rows
+          (λ e r w u. record { legal = w.legal; step = w.step; cost = w.cost; last = w.last; rise = w.rise; next = next_moves e r w u }) held below
 
-        pub moved_rise : r.rise ≡ sum_over (counted t) (λ e. cond (is_last_by k at e) (rise_of (H (counted t)) e) 0)
-        moved_rise = w.slope ∙ sum_of_places _ (λ e. cond (is_last_by k at e) (rise_of (H (counted t)) e) 0) (λ i h.
-            rw (c.lasts i h, c.rises i h)
-            (next_rises k (element_at t i) x (get_or next i 0) (nexts i h) at at_later (l.below i h) b (rise_of (H (counted t)) (element_at t i))))
+      pub moved_due : sum_by (due_in at) rows ≡ visited_due_at k s at
+      unfolding cost_of
+      moved_due = zip_sum (Holds k (H s) x) (λ r. at ≤ r.place.next) (due_in at) (λ e. cond (is_visited_by k at e) e.cost 0) s rows
+          (λ e r w u. rw (w.cost, next_visits k e x r.place.next w.next at at_later u b)) held below
+
+      pub moved_rise : sum_by (rise_in at) rows ≡ sum_over s (λ e. cond (is_last_by k at e) (rise_of (H s) e) 0)
+      moved_rise = zip_sum (Holds k (H s) x) (λ r. at ≤ r.place.next) (rise_in at) (λ e. cond (is_last_by k at e) (rise_of (H s) e) 0) s rows
+          (λ e r w u. rw (w.last, w.rise) (next_rises k e x r.place.next w.next at at_later u b (rise_of (H s) e))) held below

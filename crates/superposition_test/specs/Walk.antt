@@ -1,68 +1,86 @@
 -- What the parts of the superposition walk promise one another.
-use Rattle.std.specs.Prelude.{ℕ, ◌+◌, ◌≤◌, ◌<◌, ◌≡◌, true, cond, List, ltb, eqb, length, get_or}
-use Rattle.model.specs.declared.elements.TaskSet.{TaskSet}
-use Rattle.model.specs.Elements.{most_cost, places, most_h, most_k, counted, is_legal_set}
-use Rattle.model.specs.Demand.{H, Q}
+use Rattle.std.specs.Prelude.{ℕ, ◌+◌, ◌≤◌, ◌≡◌, min, Bool, cond, List, map, fold, sum_by, ltb, eqb, length, Result, Ok, Err}
+use Rattle.model.specs.declared.elements.Element.{Element}
+use Rattle.model.specs.declared.answers.Verdict.{Verdict}
+use Rattle.model.specs.declared.answers.Verdict.TheVariants.{Passes, NotShown}
+use Rattle.model.specs.Over.{Each}
+use Rattle.model.specs.Elements.{most_cost, places, most_h, most_k}
+use Rattle.model.specs.Demand.{H, D, Q}
 use Rattle.model.specs.Superposition.{m}
 use Rattle.theory.specs.Growth.{rise_of}
-use Rattle.superposition_test.specs.declared.walk.Moved.{Moved}
-use Rattle.theory.specs.Places.{element_at, sum_to}
-use Rattle.places.specs.Columns.{most_bound, step_in}
 use Rattle.theory.specs.Sizes.{most_length}
+use Rattle.places.specs.Columns.{most_bound, place_of}
+use Rattle.superposition_test.specs.declared.walk.Row.{Row}
+use Rattle.superposition_test.specs.declared.walk.Moved.{Moved}
+use Rattle.superposition_test.specs.declared.walk.HeldBack.{HeldBack}
 
 -- "none left"
 abbrev pub none : ℕ
 none = 18446744073709551615
 
--- what superposition is given with load at most one: a legal set, its k, and H
-pub record Walkable (t : TaskSet) (k h : ℕ) : Type 0 where
-  pub legal : is_legal_set t ≡ true
+-- what superposition is given with load at most one: besides a legal set, its k, and H
+pub record Walkable (s : List Element) (k h : ℕ) : Type 0 where
   pub low : 1 ≤ k
   pub high : k ≤ most_k
-  pub hyperperiod : h ≡ H (counted t)
+  pub hyperperiod : h ≡ H s
   pub small : h ≤ most_h
-  pub load : Q (counted t) ≤ h
+  pub load : Q s ≤ h
 
--- r is the least of the first n of xs, none where there is none
-pub record Least (xs : List ℕ) (n r : ℕ) : Type 0 where
-  pub below : (i : ℕ) → i < n → r ≤ get_or xs i 0
-  pub top : r ≤ none
-  pub attained : r < none → (i : ℕ) × (i < n) × (get_or xs i 0 ≡ r)
+-- an element's row as the walk begins: its place, its m, and c times h / p
+abbrev pub row_of : ℕ → ℕ → Element → Row
+row_of k h e = record { place = place_of e; last = m k e; rise = rise_of h e }
 
--- each counted place has its step
-pub record Stepped (t : TaskSet) (step : List ℕ) : Type 0 where
-  pub steps : (i : ℕ) → i < t.count → get_or step i 0 ≡ step_in (element_at t i)
-
--- each counted place has its m, and its c times h / p
-pub record Limited (t : TaskSet) (k h : ℕ) (last rise : List ℕ) : Type 0 where
-  pub lasts : (i : ℕ) → i < t.count → get_or last i 0 ≡ m k (element_at t i)
-  pub rises : (i : ℕ) → i < t.count → get_or rise i 0 ≡ rise_of h (element_at t i)
+abbrev pub unused : Row
+unused = record { place = record { next = 0; step = 0; cost = 0 }; last = 0; rise = 0 }
 
 -- no element adds more than this to the slope: the largest cost times the largest H
 abbrev pub most_rise : ℕ
 most_rise = 18014398509481984
 
--- what the numbers keep to where the first n places move on
-pub record Movable (next step cost rise : List ℕ) (n at : ℕ) : Type 0 where
-  pub few : n ≤ places
-  pub long : length next ≡ places
-  pub steps : (i : ℕ) → i < n → get_or step i 0 ≤ most_bound
-  pub costs : (i : ℕ) → i < n → get_or cost i 0 ≤ most_cost
-  pub rises : (i : ℕ) → i < n → get_or rise i 0 ≤ most_rise
+-- what the numbers keep to where rows move on
+pub record Small (r : Row) : Type 0 where
+  pub step : r.place.step ≤ most_bound
+  pub cost : r.place.cost ≤ most_cost
+  pub rise : r.rise ≤ most_rise
+
+pub record Movable (rows : List Row) (at : ℕ) : Type 0 where
+  pub few : length rows ≤ places
+  pub small : Each rows Small
   pub low : at ≤ most_length
 
--- the next length of a place that has this one
+-- the least of their next lengths, none left where there is none
+abbrev pub least_next : List Row → ℕ
+least_next rows = fold (λ best r. min best r.place.next) none rows
+
+-- whether a row has this length for its next
+abbrev pub has : ℕ → Row → Bool
+has at r = eqb r.place.next at
+
+-- the next length after one that a row has
 abbrev pub on_from : ℕ → ℕ → ℕ → ℕ
 on_from at step last = cond (ltb at last) (at + step) none
 
--- what it then adds to the slope
+-- what a row then adds to the slope
 abbrev pub rise_from : ℕ → ℕ → ℕ → ℕ
 rise_from at last rise = cond (ltb at last) 0 rise
 
--- "moves on every place that has it": the first n places, with the cost due there and what the slope rises by
-pub record MovedOn (next₀ next step cost last rise : List ℕ) (n at : ℕ) (r : Moved) : Type 0 where
-  pub long : length next ≡ places
-  pub nexts : (i : ℕ) → i < n →
-      get_or next i 0 ≡ cond (eqb (get_or next₀ i 0) at) (on_from at (get_or step i 0) (get_or last i 0)) (get_or next₀ i 0)
-  pub due : r.cost ≡ sum_to (λ i. cond (eqb (get_or next₀ i 0) at) (get_or cost i 0) 0) n
-  pub slope : r.rise ≡ sum_to (λ i. cond (eqb (get_or next₀ i 0) at) (rise_from at (get_or last i 0) (get_or rise i 0)) 0) n
+-- "moves on every place that has it": a row after that, the cost due in it, and what the slope rises by
+abbrev pub moved_on : ℕ → Row → Row
+moved_on at r = record r { place = record r.place { next = cond (has at r) (on_from at r.place.step r.last) r.place.next } }
+
+abbrev pub due_in : ℕ → Row → ℕ
+due_in at r = cond (has at r) r.place.cost 0
+
+abbrev pub rise_in : ℕ → Row → ℕ
+rise_in at r = cond (has at r) (rise_from at r.last r.rise) 0
+
+pub record MovedOn (at : ℕ) (before after : List Row) (moved : Moved) : Type 0 where
+  pub rows : after ≡ map (moved_on at) before
+  pub due : moved.cost ≡ sum_by (due_in at) before
+  pub slope : moved.rise ≡ sum_by (rise_in at) before
+  pub next : moved.next ≡ least_next after
+
+-- the verdict of what the walk answers
+abbrev pub told : List Element → Result ℕ HeldBack → Verdict
+told s (Ok count) = Passes count
+told s (Err x) = NotShown x.interval (D s x.interval) x.count

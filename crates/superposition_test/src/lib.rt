@@ -5,25 +5,31 @@ ghost use Rattle.superposition_test.specs.FunctionContracts.{SuperpositionSays};
 
 mod walk;
 
-use load::{Loaded, load_of};
+use load::{Loaded, demand_at, load_of};
 use model::checks::check_k;
-use model::{Answer, Check, TaskSet};
+use model::{LegalSet, Refusal, TaskSet, Verdict};
 use walk::walk;
 
 // 9, then a refusal by 3 to 8, or the verdict.
-pub fn superposition(set: TaskSet, k: u32) -> Answer
+pub fn superposition(set: TaskSet, k: u32) -> Result<Verdict, Refusal>
     ensures { SuperpositionSays set k result }
 {
-    if let Check::TurnedAway(r) = check_k(k) {
-        return Answer::Refused(r);
-    }
-    match load_of(set) {
-        Loaded::Refused(r) => Answer::Refused(r),
-        Loaded::AboveOne(verdict) => Answer::Given(verdict),
-        Loaded::AtMostOne {
-            first: _,
-            hyperperiod,
-            load: _,
-        } => Answer::Given(walk(set, k as u64, hyperperiod)),
+    check_k(k)?;
+    let loaded = load_of(set)?;
+    match loaded {
+        Loaded::AboveOne(verdict) => Ok(verdict),
+        Loaded::AtMostOne { hyperperiod, .. } => {
+            let legal = LegalSet {
+                elements: set.counted(),
+            };
+            match walk(legal, u64::from(k), hyperperiod) {
+                Ok(count) => Ok(Verdict::Passes { count }),
+                Err(held) => Ok(Verdict::NotShown {
+                    interval: held.interval,
+                    demand: demand_at(set, held.interval),
+                    count: held.count,
+                }),
+            }
+        }
     }
 }

@@ -2,12 +2,13 @@
 use Prim.Native.Nat.{ℕ, zero, suc, ◌+◌, ◌*◌, ◌-◌, ◌≤◌, ◌<◌, min}
 use mathlib.Core.Path.{◌≡◌, refl, sym, ap, ◌∙◌}
 use mathlib.Core.Bool.{Bool, true, false, cond}
-use mathlib.Core.List.{List, [], ◌∷◌}
+use mathlib.Core.List.{List}
 use mathlib.Core.Logic.{⊎_elim}
 use native.Mathlib.Omega.{arith}
 use lib.Dec.{eqb, leb}
 use lib.ListN.{length, take, drop, get_or, length-take}
-use lib.Seq.{take-nil, get_or-take}
+use lib.Seq.{get_or-take}
+use Rattle.std.proofs.lemmas.List.{drop-take}
 use borrow.Author.Tests.{eq-eqb, ne_eqb, le-leb, lt-leb}
 use Rattle.model.specs.declared.elements.Period.{Period}
 use Rattle.model.specs.declared.elements.Period.TheVariants.{Once, Every}
@@ -97,15 +98,12 @@ module _ (n : ℕ) (s : List ℕ) (h : 17 ≤ n) where
       then check_element place (same_element j)
 
 -- THE RECORDS
-drop_take : (m n k : ℕ) (s : List ℕ) → n ≡ m + k → drop m (take n s) ≡ take k (drop m s)
-drop_take zero n k s h = let e : n ≡ k = omega arith in ap (λ x. take x s) e
-drop_take (suc m) zero k s h = absurd (omega arith)
-drop_take (suc m) (suc n) k [] h = sym (take-nil k)
-drop_take (suc m) (suc n) k (b ∷ s) h = drop_take m n k s (omega arith)
-
 -- what follows a record
 same_rest : (n : ℕ) (s : List ℕ) → 17 ≤ n → drop (record_size (take n s)) (take n s) ≡ take (n - record_size s) (drop (record_size s) s)
-same_rest n s h = rw (same_size n s h) (drop_take (record_size s) n (n - record_size s) s (omega (arith, size_most s)))
+same_rest n s h =
+    let m = record_size s in
+    let whole : m + (n - m) ≡ n = omega (arith, size_most s) in
+    rw (same_size n s h) (rw whole at (drop-take m (n - m) s))
 
 same_checks : (room place n : ℕ) (s : List ℕ) → 17 * suc room ≤ n → check_records room place (take n s) ≡ check_records room place s
 unfolding check_records

@@ -13,8 +13,9 @@ use Rattle.model.specs.TurnedAway.{unless, check_element, first_above, check_h, 
 use Rattle.wire.specs.Format.{number_bytes, is_kind, body_size, record_size, element_of, start_of, record_of, records_of}
 use Rattle.wire.specs.Reading.{check_record, no_bytes, check_records, elements_in}
 use Rattle.analysis.specs.InBytes.{kind_byte, exact_of_bytes, superposition_of_bytes}
-use Rattle.printer.specs.Text.{decimal, field, line, refused_line}
-use Rattle.printer.specs.Answered.{lines, shown_of, printed_of}
+use Rattle.std.specs.Fmt.{digits}
+use Rattle.printer.specs.Text.{line}
+use Rattle.printer.specs.Answered.{lines, first_refusal, printed_of}
 use Rattle.verdict.specs.Printed.{printed}
 
 -- "it prints, whole"
@@ -59,5 +60,5 @@ pub printout :
     × (printed (records_of S5) ≡ S5_text)
     × (printed (0 ∷ []) ≡ unknown_kind)
     × (printed (records_of S11_refused) ≡ long_hyperperiod)
-unfolding gcd_in gcd lcm least how_many sum_over largest_over some_over all_over within is_period is_offset is_deadline is_cost F H demand_of D load_in is_test_of is_test is_overrun multiple overload_at overload failing stop comparing by_load exact scaled_by scaled_in is_above is_visited superposition unless check_element first_above check_h check_k analysis number_bytes is_kind body_size record_size element_of start_of record_of records_of check_record no_bytes check_records elements_in kind_byte exact_of_bytes superposition_of_bytes decimal field line refused_line lines shown_of printed_of printed
+unfolding gcd_in gcd lcm least how_many sum_over largest_over some_over all_over within is_period is_offset is_deadline is_cost F H demand_of D load_in is_test_of is_test is_overrun multiple overload_at overload failing stop comparing by_load exact scaled_by scaled_in is_above is_visited superposition unless check_element first_above check_h check_k analysis number_bytes is_kind body_size record_size element_of start_of record_of records_of check_record no_bytes check_records elements_in kind_byte exact_of_bytes superposition_of_bytes digits line lines first_refusal printed_of printed
 printout = (refl, refl, refl, refl)

@@ -5,7 +5,12 @@ use Rattle.analysis.specs.InBytes.{exact_of_bytes, superposition_of_bytes}
 
 -- what is printed for these bytes
 unfoldable pub printed : List ℕ → List ℕ
-printed b = printed_of (exact_of_bytes b) (superposition_of_bytes 1 b) (superposition_of_bytes 2 b) (superposition_of_bytes 100 b)
+printed b = printed_of (record {
+  exact = exact_of_bytes b;
+  one = superposition_of_bytes 1 b;
+  two = superposition_of_bytes 2 b;
+  hundred = superposition_of_bytes 100 b;
+})
 
 -- "It reads standard input, of which the first 4,096 bytes decide"
 abbrev pub deciding : ℕ

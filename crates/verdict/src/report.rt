@@ -2,16 +2,18 @@
 ghost use Rattle.verdict.specs.FunctionContracts.{PutVerdictsSays};
 
 use analysis::{exact_of_bytes, superposition_of_bytes};
-use printer::{ROOM, put_answers};
+use printer::{Lines, ROOM, put_answers};
 
 // Puts what is printed for these bytes at the start of out, and answers how many bytes that are.
 #[tactic(auto, unfolding(crate::specs::Printed::printed))]
 pub(crate) fn put_verdicts(bytes: &[u8], out: &mut [u8; ROOM]) -> usize
     ensures { PutVerdictsSays bytes.now out.old result out.new }
 {
-    let exact = exact_of_bytes(bytes);
-    let one = superposition_of_bytes(bytes, 1);
-    let two = superposition_of_bytes(bytes, 2);
-    let hundred = superposition_of_bytes(bytes, 100);
-    put_answers(exact, one, two, hundred, out)
+    let answers = Lines {
+        exact: exact_of_bytes(bytes),
+        one: superposition_of_bytes(bytes, 1),
+        two: superposition_of_bytes(bytes, 2),
+        hundred: superposition_of_bytes(bytes, 100),
+    };
+    put_answers(answers, out)
 }

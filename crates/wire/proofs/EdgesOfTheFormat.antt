@@ -3,12 +3,12 @@ use Prim.Native.Nat.{ℕ}
 use mathlib.Core.Path.{◌≡◌, refl}
 use mathlib.Core.List.{List, [], ◌∷◌, ◌++◌}
 use lib.ListN.{replicate}
-use Rattle.model.specs.declared.answers.Check.TheVariants.{Fine}
+use Rattle.model.specs.declared.answers.Reason.TheVariants.{RecordCut}
 use Rattle.model.specs.Elements.{within, is_period, is_offset, is_deadline, is_cost, set_of, empty_set}
 use Rattle.model.specs.Answers.{Told, told}
 use Rattle.model.specs.TurnedAway.{turned, unless, check_element}
 use Rattle.model.specs.Sums.{every, once, S7}
-use Rattle.wire.specs.declared.records.Record.TheVariants as answer
+use Rattle.std.specs.Prelude.{Some, None, Ok}
 use Rattle.wire.specs.Format.{number_bytes, number_at, is_kind, body_size, record_size, element_of, start_of, record_of, records_of}
 use Rattle.wire.specs.Reading.{check_record, no_bytes, check_of, read_next, read_record, bytes_taken, rest_of, check_records, elements_in, handed_back, read_set}
 
@@ -24,7 +24,7 @@ numbers_as_bytes = (refl, refl, refl)
 abbrev s7 : List ℕ
 s7 = 1 ∷ 10 ∷ 0 ∷ 0 ∷ 0 ∷ 0 ∷ 0 ∷ 0 ∷ 0 ∷ 2 ∷ 0 ∷ 0 ∷ 0 ∷ 2 ∷ 0 ∷ 0 ∷ 0 ∷ 2 ∷ 0 ∷ 0 ∷ 0 ∷ 0 ∷ 11 ∷ 0 ∷ 0 ∷ 0 ∷ 8 ∷ 0 ∷ 0 ∷ 0 ∷ []
 
-pub S7_as_bytes : (read_set s7 ≡ handed_back Fine (set_of S7)) × (records_of S7 ≡ s7)
+pub S7_as_bytes : (read_set s7 ≡ handed_back (Ok tt) (set_of S7)) × (records_of S7 ≡ s7)
 unfolding within is_period is_offset is_deadline is_cost unless check_element number_bytes is_kind body_size record_size element_of start_of record_of records_of check_record no_bytes check_records elements_in read_set
 S7_as_bytes = (refl, refl)
 
@@ -53,8 +53,8 @@ S12_as_bytes = (refl, refl, refl, refl, refl)
 
 -- one record: the end, the element, and 1, 2, 4 to 7 in that order; a record takes its own bytes and no more
 pub records_in_order :
-    (read_record [] ≡ answer.End)
-    × (read_record (record_of (once 0 1 1) ++ (7 ∷ [])) ≡ answer.Element (once 0 1 1))
+    (read_record [] ≡ Ok None)
+    × (read_record (record_of (once 0 1 1) ++ (7 ∷ [])) ≡ Ok (Some (once 0 1 1)))
     × (rest_of (record_of (once 0 1 1) ++ (7 ∷ [])) ≡ 7 ∷ [])
     × (rest_of (record_of (every 1 0 1 1) ++ (7 ∷ 8 ∷ [])) ≡ 7 ∷ 8 ∷ [])
     × (rest_of (7 ∷ 8 ∷ []) ≡ 7 ∷ 8 ∷ [])
@@ -71,7 +71,7 @@ records_in_order = (refl, refl, refl, refl, refl, refl, refl, refl, refl, refl, 
 pub sets_in_order :
     (all (record_of (every 1 0 1 1) ++ (record_of (once 0 1 1) ++ (3 ∷ []))) ≡ refusal 1 30)
     × (all (record_of (once 0 1 1) ++ (record_of (once 0 1 0) ++ (3 ∷ []))) ≡ refusal 7 13)
-    × (read_set (record_of (once 0 1 1) ++ (2 ∷ [])) ≡ handed_back (turned 2 13) empty_set)
+    × (read_set (record_of (once 0 1 1) ++ (2 ∷ [])) ≡ handed_back (turned RecordCut 13) empty_set)
     × (all (records_of (replicate 128 (once 0 1 1))) ≡ none)
     × (all (records_of (replicate 129 (once 0 1 1))) ≡ refusal 3 1664)
     × (all (records_of (replicate 128 (once 0 1 1)) ++ record_of (once 0 0 0)) ≡ refusal 3 1664)

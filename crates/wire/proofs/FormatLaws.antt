@@ -1,7 +1,7 @@
 -- Laws of specs/Format. Assumes nothing.
-use Prim.Native.Nat.{ℕ, ◌-◌, ◌≤◌}
-use mathlib.Core.Path.{◌≡◌}
-use mathlib.Core.Bool.{true, cond}
+use Prim.Native.Nat.{ℕ, suc, ◌-◌, ◌≤◌}
+use mathlib.Core.Path.{◌≡◌, sym}
+use mathlib.Core.Bool.{true}
 use mathlib.Core.List.{List}
 use mathlib.Core.Logic.{◌⊎◌, inl, inr, ⊎_elim}
 use native.Mathlib.Omega.{arith}
@@ -9,7 +9,9 @@ use lib.Dec.{eqb}
 use borrow.Author.Tests.{eqb-true}
 use Rattle.model.specs.declared.elements.Period.TheVariants.{Once, Every}
 use Rattle.model.proofs.Cases.{or_cases}
-use Rattle.wire.specs.Format.{number_at, kind_of, is_kind, body_size, record_size, element_from, element_of}
+use Rattle.wire.specs.declared.kinds.Kind.{Kind}
+use Rattle.wire.specs.declared.kinds.Kind.TheVariants.{Periodic, Single}
+use Rattle.wire.specs.Format.{number_at, byte_of, kind_for, period_for, kind_of, is_kind, body_size, record_size, element_from, element_of}
 
 -- KINDS
 pub known_kinds : (kind : ℕ) → is_kind kind ≡ true → (kind ≡ 1) ⊎ (kind ≡ 2)
@@ -40,13 +42,24 @@ module _ (s : List ℕ) where
     once_element = rw h
 
   module _ (h : is_kind (kind_of s) ≡ true) where
-    pub known_size : 13 ≤ record_size s
-    known_size = ⊎_elim (λ one. omega (arith, every_size one)) (λ two. omega (arith, once_size two)) (known_kinds (kind_of s) h)
-
-    -- both kinds in one: the last twelve bytes are offset, deadline and cost
-    pub element_is : element_of s ≡ element_from s (cond (eqb (kind_of s) 2) Once (Every (number_at s 1))) (record_size s - 12)
-    element_is =
+    -- the size is that of the element's kind
+    pub kind_size : suc (body_size (byte_of (kind_for (element_of s).period))) ≡ record_size s
+    unfolding body_size
+    kind_size =
         ⊎_elim
-        (λ one. rw (every_element one, every_size one, one))
-        (λ two. rw (once_element two, once_size two, two))
+        (λ one. rw (every_element one, every_size one))
+        (λ two. rw (once_element two, once_size two))
         (known_kinds (kind_of s) h)
+
+  -- both kinds in one: the last twelve bytes are offset, deadline and cost
+  pub element_is :
+      (kind : Kind) → byte_of kind ≡ kind_of s →
+      element_of s ≡ element_from s (period_for kind (number_at s 1)) (suc (body_size (byte_of kind)) - 12)
+  unfolding body_size
+  element_is Periodic h = every_element (sym h)
+  element_is Single h = once_element (sym h)
+
+pub kind_is_long : (kind : Kind) → 13 ≤ suc (body_size (byte_of kind))
+unfolding body_size
+kind_is_long Periodic = omega arith
+kind_is_long Single = omega arith

@@ -8,16 +8,12 @@ use lib.Seq.{set-append_seam}
 use Rattle.model.specs.declared.elements.Element.{Element}
 use Rattle.model.specs.declared.elements.TaskSet.{TaskSet}
 use Rattle.model.specs.declared.answers.Refusal.{Refusal}
-use Rattle.model.specs.declared.answers.Check.{Check}
-use Rattle.model.specs.declared.answers.Check.TheVariants.{Fine, TurnedAway}
 use Rattle.model.specs.Elements.{places, filler, set_of, empty_set}
-use Rattle.wire.specs.declared.records.Record.{Record}
-use Rattle.wire.specs.declared.records.Record.TheVariants as answer
-use Rattle.wire.specs.declared.reading.ReadSet.{ReadSet}
+use Rattle.std.specs.Prelude.{Some, None, Ok, Err}
 use Rattle.wire.specs.Format.{record_size, element_of}
-use Rattle.wire.specs.Reading.{check_of, read_next, rest_of, check_records, elements_in, handed_back, read_set}
+use Rattle.wire.specs.Reading.{read_next, rest_of, check_records, elements_in, handed_back, read_set}
 use Rattle.wire.proofs.FormatLaws.{some_size}
-use Rattle.wire.proofs.ReadingLaws.{IsElement, answer_tells, rest_element, NoElement, no_element, records_end, records_stop, records_next, elements_end, elements_next}
+use Rattle.wire.proofs.ReadingLaws.{IsElement, answer_tells, rest_element, records_end, records_stop, records_next, elements_end, elements_next}
 
 -- the set with one element more, as the stores leave it
 abbrev pub with_next : TaskSet → Element → TaskSet
@@ -50,22 +46,17 @@ module _ (s : List ℕ) (t : TaskSet) (left : List ℕ) (k : Reading s t left) w
   pub count_is : t.count ≡ length k.got
   count_is = ap (λ x. x.count) k.table
 
-  pub stop :
-      (r : Record) →
-      read_next (places - t.count) (length s - length left) left ≡ r →
-      NoElement r →
-      {v : Check} →
-      v ≡ check_of r →
-      handed_back v t ≡ read_set s
+  pub stop_refused : {r : Refusal} → read_next (places - t.count) (length s - length left) left ≡ Err r → handed_back (Err r) t ≡ read_set s
   unfolding read_set
-  stop (answer.Element e) h o p = no_element e o
-  stop (answer.Refused r) h o p =
+  stop_refused h =
       let f = answer_tells (places - length k.got) (length s - length left) left (rw count_is at h) in
-      rw (p, k.check, records_stop (length s - length left) left (places - length k.got) f.0 f.1)
-  stop answer.End h o p =
+      rw (k.check, records_stop (length s - length left) left (places - length k.got) f.0 f.1)
+
+  pub stop_end : read_next (places - t.count) (length s - length left) left ≡ Ok None → handed_back (Ok tt) t ≡ read_set s
+  unfolding read_set
+  stop_end h =
       let f = answer_tells (places - length k.got) (length s - length left) left (rw count_is at h) in
       rw (
-        p,
         k.check,
         k.elements,
         records_end (length s - length left) left (places - length k.got) f,
@@ -74,7 +65,7 @@ module _ (s : List ℕ) (t : TaskSet) (left : List ℕ) (k : Reading s t left) w
         k.table,
       )
 
-  module _ {e : Element} (h : read_next (places - t.count) (length s - length left) left ≡ answer.Element e) where
+  module _ {e : Element} (h : read_next (places - t.count) (length s - length left) left ≡ Ok (Some e)) where
     found : IsElement left × (1 ≤ places - t.count) × (element_of left ≡ e)
     found = answer_tells (places - t.count) (length s - length left) left h
 
@@ -104,10 +95,3 @@ module _ (s : List ℕ) (t : TaskSet) (left : List ℕ) (k : Reading s t left) w
 
     pub less : length (rest_of left) < length left
     less = rw (rest_is, length-drop) (omega (arith, found.0.whole, some_size left))
-
-module _ {v : Check} (t : TaskSet) where
-  pub handed_empty : {r : Refusal} → v ≡ TurnedAway r → {u : TaskSet} → u ≡ empty_set → ◌≡◌ {A = ReadSet} (record { check = v; set = u }) (handed_back v t)
-  handed_empty p e = rw (p, e)
-
-  pub handed_whole : v ≡ Fine → ◌≡◌ {A = ReadSet} (record { check = v; set = t }) (handed_back v t)
-  handed_whole p = rw p

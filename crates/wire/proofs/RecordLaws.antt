@@ -8,6 +8,8 @@ use native.Mathlib.Numerals.{towards_suc}
 use native.Mathlib.Omega.{arith}
 use lib.ListN.{length, get_or, drop, length-append}
 use lib.Seq.{drop-cons, drop_at}
+use Rattle.std.specs.Int.{w32, to_le_bytes, from_le_bytes}
+use Rattle.std.proofs.lemmas.Nat.{le_bytes_4, from_le_bytes-to_le_bytes_4}
 use Rattle.model.specs.declared.elements.Period.{Period}
 use Rattle.model.specs.declared.elements.Period.TheVariants.{Once, Every}
 use Rattle.model.specs.declared.elements.Element.{Element}
@@ -17,26 +19,19 @@ use Rattle.wire.specs.Format.{AllBytes, number_bytes, number_at, kind_of, is_kin
 use Rattle.wire.proofs.FormatLaws.{known_kinds, every_size, every_element, once_size, once_element}
 use Rattle.wire.proofs.ReadingLaws.{IsElement}
 
--- NUMBERS
+-- NUMBERS, as std has them
+pub number_bytes_is : (x : ℕ) → number_bytes x ≡ to_le_bytes w32 x
+unfolding number_bytes
+number_bytes_is x = refl
+
+abbrev four_at : List ℕ → ℕ → List ℕ
+four_at s i = get_or s i 0 ∷ get_or s (i + 1) 0 ∷ get_or s (i + 2) 0 ∷ get_or s (i + 3) 0 ∷ []
+
+pub number_at_is : (s : List ℕ) (i : ℕ) → number_at s i ≡ from_le_bytes w32 (four_at s i)
+number_at_is s i = refl
+
 number_read : (x : ℕ) → x ≤ 16777216 → x % 256 + x / 256 % 256 * 256 + x / 65536 % 256 * 65536 + x / 16777216 % 256 * 16777216 ≡ x
-number_read x h = omega arith
-
-module _ (a b c d : ℕ) (p : a < 256) (q : b < 256) (r : c < 256) (t : d < 256) where
-  number_written : number_bytes (a + b * 256 + c * 65536 + d * 16777216) ≡ a ∷ b ∷ c ∷ d ∷ []
-  unfolding number_bytes
-  number_written = λ i. first i ∷ second i ∷ third i ∷ fourth i ∷ []
-    where
-      first : (a + b * 256 + c * 65536 + d * 16777216) % 256 ≡ a
-      first = omega arith
-
-      second : (a + b * 256 + c * 65536 + d * 16777216) / 256 % 256 ≡ b
-      second = omega arith
-
-      third : (a + b * 256 + c * 65536 + d * 16777216) / 65536 % 256 ≡ c
-      third = omega arith
-
-      fourth : (a + b * 256 + c * 65536 + d * 16777216) / 16777216 % 256 ≡ d
-      fourth = omega arith
+number_read x h = from_le_bytes-to_le_bytes_4 x (omega arith)
 
 byte_at : (s : List ℕ) → AllBytes s → (i : ℕ) → get_or s i 0 < 256
 byte_at [] h i = omega arith
@@ -105,12 +100,15 @@ module _ (s : List ℕ) where
 module _ (s : List ℕ) (h : AllBytes s) where
   -- the number at k, up to j
   number_cut : (k j : ℕ) → k + 4 ≡ j → j ≤ length s → drop k s ≡ number_bytes (number_at s k) ++ drop j s
-  number_cut k j e g =
-      four
-      ∙ ap (λ l. l ++ drop (k + 4) s) (sym (number_written _ _ _ _ (byte_at s h k) (byte_at s h (k + 1)) (byte_at s h (k + 2)) (byte_at s h (k + 3))))
-      ∙ ap (λ n. number_bytes (number_at s k) ++ drop n s) e
+  number_cut k j e g = four ∙ ap (λ l. l ++ drop (k + 4) s) (sym written) ∙ ap (λ n. number_bytes (number_at s k) ++ drop n s) e
     where
-      four : drop k s ≡ get_or s k 0 ∷ get_or s (k + 1) 0 ∷ get_or s (k + 2) 0 ∷ get_or s (k + 3) 0 ∷ drop (k + 4) s
+      bytes : AllBytes (four_at s k)
+      bytes = (byte_at s h k, (byte_at s h (k + 1), (byte_at s h (k + 2), (byte_at s h (k + 3), tt))))
+
+      written : number_bytes (number_at s k) ≡ four_at s k
+      written = number_bytes_is (number_at s k) ∙ le_bytes_4 (four_at s k) (number_at s k) refl (byte_at (four_at s k) bytes) (number_at_is s k)
+
+      four : drop k s ≡ four_at s k ++ drop (k + 4) s
       four =
           simp towards_suc
           (rw (

@@ -6,10 +6,10 @@ use mathlib.Core.List.{List, [], ◌∷◌, ◌++◌, append_assoc}
 use mathlib.Core.Logic.{◌⊎◌, inl, inr}
 use native.Mathlib.Omega.{arith}
 use lib.ListN.{length, drop, length-append}
+use Rattle.std.specs.Prelude.{Ok, Err}
 use Rattle.model.specs.declared.elements.Element.{Element}
 use Rattle.model.specs.declared.answers.Refusal.{Refusal}
-use Rattle.model.specs.declared.answers.Check.{Check}
-use Rattle.model.specs.declared.answers.Check.TheVariants.{Fine, TurnedAway}
+use Rattle.model.specs.Answers.{Check}
 use Rattle.model.specs.Over.{all_over}
 use Rattle.model.specs.Elements.{is_legal, AllLegal}
 use Rattle.model.proofs.Cases.{and_both, and_left, and_right}
@@ -54,7 +54,7 @@ module _ (room : ℕ) (t : List ℕ) where
 
 -- WHERE READING STOPS
 abbrev pub Stops : ℕ → ℕ → List ℕ → Type 0
-Stops room place t = (no_bytes t ≡ true) ⊎ ((r : Refusal) × (no_bytes t ≡ false) × (check_record room place t ≡ TurnedAway r))
+Stops room place t = (no_bytes t ≡ true) ⊎ ((r : Refusal) × (no_bytes t ≡ false) × (check_record room place t ≡ Err r))
 
 -- the elements before, the bytes from there on, the room left and the place
 pub record Split (room place : ℕ) (s : List ℕ) : Type 0 where
@@ -108,8 +108,8 @@ split zero place s h = go (no_bytes s) (check_record 0 place s) refl refl
   where
     go : (b : Bool) (c : Check) → no_bytes s ≡ b → check_record 0 place s ≡ c → Split 0 place s
     go true c p q = at_once 0 place s (inl p)
-    go false (TurnedAway r) p q = at_once 0 place s (inr (r, p, q))
-    go false Fine p q = absurd (omega (arith, ((record_fine 0 place s).0 q).1))
+    go false (Err r) p q = at_once 0 place s (inr (r, p, q))
+    go false (Ok tt) p q = absurd (omega (arith, ((record_fine 0 place s).0 q).1))
 split (suc room) place s h =
     go (no_bytes s) (check_record (suc room) place s) refl refl
     (split room (place + record_size s) (drop (record_size s) s) (bytes_drop (record_size s) s h))
@@ -121,5 +121,5 @@ split (suc room) place s h =
         Split room (place + record_size s) (drop (record_size s) s) →
         Split (suc room) place s
     go true c p q k = at_once (suc room) place s (inl p)
-    go false (TurnedAway r) p q k = at_once (suc room) place s (inr (r, p, q))
-    go false Fine p q k = one_more room place s h ((record_fine (suc room) place s).0 q).0 k
+    go false (Err r) p q k = at_once (suc room) place s (inr (r, p, q))
+    go false (Ok tt) p q k = one_more room place s h ((record_fine (suc room) place s).0 q).0 k

@@ -1,9 +1,13 @@
 -- Words of the theorems about reading: the rows of document 01's table for a record, bytes that are a set or are refused.
 use Rattle.std.specs.Prelude.{ℕ, ◌≤◌, ◌≡◌, Bool, true, List, ◌∷◌, ◌++◌, leb, ltb, length}
 use Rattle.model.specs.declared.elements.Element.{Element}
-use Rattle.model.specs.Elements.{places, AllLegal}
+use Rattle.model.specs.declared.answers.Reason.{Reason}
+use Rattle.model.specs.Answers.{number_of}
+use Rattle.model.specs.Elements.{places, AllLegal, empty_set}
+use Rattle.model.specs.TurnedAway.{turned}
 use Rattle.model.specs.Rows.{value_rows, IsFirstRow}
 use Rattle.wire.specs.Format.{kind_of, is_kind, record_size, element_of, records_of}
+use Rattle.wire.specs.Reading.{handed_back, read_set}
 
 -- THE ROWS 1 to 7 of "What is turned away", of the record that the bytes start with, after these elements: whether each lets pass; there is no row 0
 abbrev pub rows : List Element → List ℕ → List Bool
@@ -33,3 +37,9 @@ pub record AreRefused (s : List ℕ) (number place : ℕ) : Type 0 where
   pub more : 1 ≤ length from
   pub at : place ≡ length (records_of before)
   pub row : IsFirstRow (rows before from) number
+
+-- reading them gives a refusal by this number at this place, and the empty set
+pub record IsRefusedRead (s : List ℕ) (number place : ℕ) : Type 0 where
+  pub reason : Reason
+  pub numbered : number_of reason ≡ number
+  pub by : read_set s ≡ handed_back (turned reason place) empty_set

@@ -6,8 +6,7 @@ use lib.ListN.{length}
 use Rattle.model.specs.declared.elements.TaskSet.{TaskSet}
 use Rattle.model.specs.Elements.{Same}
 use Rattle.model.specs.TurnedAway.{check_set}
-use Rattle.writer.specs.declared.writing.Written.{Written}
-use Rattle.writer.specs.Writing.{check_write, write_set, buffer_after}
+use Rattle.writer.specs.Writing.{Written, check_write, write_set, buffer_after}
 use Rattle.writer.specs.FunctionContracts.{WriteSetSays}
 
 module _ (t u : TaskSet) (same : Same t u) (out : List ℕ) where

@@ -4,7 +4,7 @@ use mathlib.Core.Path.{◌≡◌, sym, ◌∙◌}
 use mathlib.Core.List.{List}
 use Rattle.model.specs.declared.elements.TaskSet.{TaskSet}
 use Rattle.model.specs.Promises.{Promises}
-use Rattle.writer.specs.declared.writing.Written.{Written}
+use Rattle.writer.specs.Writing.{Written}
 use Rattle.writer.specs.FunctionContracts.{WriteSetSays}
 use Rattle.writer.specs.contracts
 use Rattle.writer.proofs.writing

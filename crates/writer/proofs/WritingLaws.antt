@@ -1,24 +1,27 @@
 -- Laws of specs/Format and specs/Writing: sizes, the records up to one more, and the outcomes. Assumes nothing.
-use Prim.Native.Nat.{ℕ, ◌+◌, ◌≤◌, ◌<◌}
+use Prim.Native.Nat.{ℕ, suc, ◌+◌, ◌*◌, ◌^◌, ◌≤◌, ◌<◌}
 use mathlib.Core.Path.{◌≡◌, refl, sym, ap, ◌∙◌}
 use mathlib.Core.List.{List, [], ◌∷◌, ◌++◌, append_assoc, append-nil}
 use native.Mathlib.Omega.{arith}
 use native.Mathlib.Numerals.{add-one}
-use lib.ListN.{length, take, drop, get_or, length-append, take-append-drop}
-use lib.Seq.{take-suc}
+use lib.ListN.{length, take, drop, get_or, length-append, length-take, take-append-drop}
+use lib.Seq.{take-suc, drop-drop, sets, sets-eq}
+use borrow.Rule.Slice.PartMut.{put_mid}
+use Rattle.std.specs.List.{sum_by}
+use Rattle.std.proofs.lemmas.List.Sums.{sum_by-cons}
 use borrow.Author.Tests.{le-leb, lt-leb}
 use Rattle.model.specs.declared.elements.Period.{Period}
 use Rattle.model.specs.declared.elements.Period.TheVariants.{Once, Every}
 use Rattle.model.specs.declared.elements.Element.{Element}
 use Rattle.model.specs.declared.elements.TaskSet.{TaskSet}
+use Rattle.model.specs.declared.answers.Reason.TheVariants.{BufferTooShort}
 use Rattle.model.specs.declared.answers.Refusal.{Refusal}
-use Rattle.model.specs.declared.answers.Check.TheVariants.{Fine, TurnedAway}
-use Rattle.model.specs.Elements.{empty_set}
+use Rattle.model.specs.Elements.{places, counted, empty_set}
 use Rattle.model.specs.TurnedAway.{unless, check_elements, check_set}
-use Rattle.writer.specs.declared.writing.Written.TheVariants.{Bytes, Refused}
+use Rattle.std.specs.Prelude.{Ok, Err}
 use Rattle.writer.specs.Writing.{bytes_of, check_write, write_set, buffer_after}
 use Rattle.model.specs.Buffers.{over}
-use Rattle.wire.specs.Format.{number_bytes, start_of, record_of, records_of}
+use Rattle.wire.specs.Format.{number_bytes, byte_of, kind_for, body_size, start_of, record_of, records_of}
 
 -- SIZES
 pub number_length : (x : ℕ) → length (number_bytes x) ≡ 4
@@ -28,27 +31,49 @@ number_length x = refl
 pub two_length : (a b : ℕ) → length (number_bytes a ++ number_bytes b) ≡ 8
 two_length a b = rw (length-append, number_length a, number_length b)
 
-three_length : (a b c : ℕ) → length (number_bytes a ++ number_bytes b ++ number_bytes c) ≡ 12
-three_length a b c = rw (length-append, two_length a b, number_length c)
-
-pub once_start : (q : Period) → q ≡ Once → start_of q ≡ 2 ∷ []
-unfolding start_of
-once_start q h = rw h
-
-pub every_start : (q : Period) (p : ℕ) → q ≡ Every p → start_of q ≡ (1 ∷ []) ++ number_bytes p
-unfolding start_of
-every_start q p h = rw h
-
-pub every_length : (q : Period) (p : ℕ) → q ≡ Every p → length (start_of q) ≡ 5
-every_length q p h = rw (every_start q p h, length-append, number_length p)
-
 pub start_length : (q : Period) → (1 ≤ length (start_of q)) × (length (start_of q) ≤ 5)
-start_length Once = rw (once_start Once refl) (omega arith, omega arith)
-start_length (Every p) = rw (every_length (Every p) p refl) (omega arith, omega arith)
+unfolding start_of number_bytes
+start_length Once = (omega arith, omega arith)
+start_length (Every p) = (omega arith, omega arith)
 
 pub record_length : (e : Element) → length (record_of e) ≡ length (start_of e.period) + 12
-unfolding record_of
-record_length e = rw (length-append, three_length e.offset e.deadline e.cost)
+unfolding number_bytes record_of
+record_length e = length-append (start_of e.period) _
+
+-- of a record: the size of its kind
+pub record_size_is : (e : Element) → suc (body_size (byte_of (kind_for e.period))) ≡ length (record_of e)
+unfolding number_bytes body_size start_of
+record_size_is e = go e.period ∙ sym (record_length e)
+  where
+    go : (q : Period) → suc (body_size (byte_of (kind_for q))) ≡ length (start_of q) + 12
+    go Once = refl
+    go (Every p) = refl
+
+-- of the records of some elements
+pub records_size : (s : List Element) → sum_by (λ e. length (record_of e)) s ≡ length (records_of s)
+unfolding records_of
+records_size [] = refl
+records_size (e ∷ s) = rw (sum_by-cons (λ x. length (record_of x)) e s, records_size s, length-append (record_of e) (records_of s))
+
+pub records_small : (s : List Element) → length (records_of s) ≤ 17 * length s
+unfolding records_of
+records_small [] = omega arith
+records_small (e ∷ s) = omega (arith, records_small s, length-append (record_of e) (records_of s), record_length e, start_length e.period)
+
+pub needed_is : (t : TaskSet) {es : List Element} {n : ℕ} → es ≡ counted t → n ≡ sum_by (λ e. length (record_of e)) es → n ≡ length (bytes_of t)
+needed_is t g h = h ∙ ap (sum_by (λ e. length (record_of e))) g ∙ records_size (counted t)
+
+-- so the sum for a set in memory is a number of the machine
+pub records_fit : (t : TaskSet) → length t.table ≡ places → sum_by (λ e. length (record_of e)) (counted t) < 2 ^ 64
+records_fit t long =
+    omega (arith, records_size (counted t), records_small (counted t), length-take t.count t.table)
+
+-- STORES: what a copy to a part of the buffer leaves
+pub put_is_sets : (l : List ℕ) (i k : ℕ) (xs : List ℕ) → length xs ≡ k → i + k ≤ length l → put_mid i k l xs ≡ sets l i xs
+put_is_sets l i k xs h g =
+    ap (λ r. take i l ++ (xs ++ r)) (drop-drop k i l ∙ ap (λ n. drop n l) (omega arith))
+    ∙ sym (append_assoc (take i l) xs (drop (i + length xs) l))
+    ∙ sym (sets-eq xs l i (omega arith))
 
 -- THE RECORDS up to one element more
 records_append : (s t : List Element) → records_of (s ++ t) ≡ records_of s ++ records_of t
@@ -74,26 +99,26 @@ records_within s i =
 
 -- THE OUTCOMES, as the code meets them
 module _ (t : TaskSet) (out : List ℕ) where
-  pub write_refused : {r : Refusal} → check_set t ≡ TurnedAway r → (Refused r ≡ write_set t (length out)) × (out ≡ buffer_after t out)
+  pub write_refused : {r : Refusal} → check_set t ≡ Err r → (Err r ≡ write_set t (length out)) × (out ≡ buffer_after t out)
   unfolding check_write write_set buffer_after
   write_refused h = (rw h, rw h)
 
   pub write_short :
       {n : ℕ} →
-      check_set t ≡ Fine →
+      check_set t ≡ Ok tt →
       n ≡ length (bytes_of t) →
       length out < n →
-      (Refused (record { number = 10; place = n }) ≡ write_set t (length out)) × (out ≡ buffer_after t out)
+      (Err (record { reason = BufferTooShort; place = n }) ≡ write_set t (length out)) × (out ≡ buffer_after t out)
   unfolding check_write unless write_set buffer_after
   write_short h g l = let short = lt-leb (length (bytes_of t)) (length out) (omega arith) in (rw (g, h, short), rw (h, short))
 
   pub write_done :
       {n : ℕ} {out' : List ℕ} →
-      check_set t ≡ Fine →
+      check_set t ≡ Ok tt →
       n ≡ length (bytes_of t) →
       n ≤ length out →
       out' ≡ over (bytes_of t) out →
-      (Bytes n ≡ write_set t (length out)) × (out' ≡ buffer_after t out)
+      (Ok n ≡ write_set t (length out)) × (out' ≡ buffer_after t out)
   unfolding check_write unless write_set buffer_after
   write_done h g l o = let long = le-leb (length (bytes_of t)) (length out) (omega arith) in (rw (g, h, long), o ∙ rw (h, long))
 

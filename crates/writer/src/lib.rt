@@ -4,4 +4,4 @@
 mod numbers;
 pub mod writing;
 
-pub use writing::{Written, write_set};
+pub use writing::write_set;

@@ -1,23 +1,17 @@
-use Rattle.std.proofs.Common.{rules, arith, ◌≡◌, length, ◌∙◌}
-use Rattle.model.specs.Elements.{places}
-use Rattle.theory.proofs.PlaceLaws.{legal_places}
-use Rattle.theory.proofs.LoadLaws.{first_is}
-use Rattle.theory.proofs.AddingUp.{largest_start, largest_end, largest_taken, largest_kept}
+use Rattle.std.proofs.Common.{rules, tests, unwrap_or, ap, ◌∙◌}
+use Rattle.std.proofs.lemmas.Iterator.{YieldsList-from_slice, YieldsList-from_map}
+use Rattle.std.proofs.lemmas.Iterator.Consumers.{reduce_from_yields_List}
+use Rattle.std.proofs.lemmas.List.Folds.{max_of_map}
+use Rattle.model.specs.Demand.{f}
+use Rattle.load.proofs.ListLaws.{first_max}
 use Rattle.load.proofs.demand.largest_first.Goals as goal
-use Rattle.load.proofs.demand.largest_first.Goals.{then-largest-first, else-largest-first}
-
-pub loop-i-init : goal.loop-i-init
-loop-i-init c = let long : length c.args.set.table ≡ places = search rules in largest_start _ _ (legal_places _ long c.requires)
-
-pub loop-i-preserved : goal.loop-i-preserved
-loop-i-preserved c =
-    let k = c.loop-i.invariant in
-    let h = c.loop-i-test.true in
-    let first = c.first_due-first.ensures in
-    elim c.if-largest-first.branch [
-      | then-largest-first w ↦ rw w.largest-is (rw first (largest_taken _ _ _ _ k h (omega (arith, first, w.if-largest-first.true))))
-      | else-largest-first w ↦ rw w.largest-is (largest_kept _ _ _ _ k h (omega (arith, first, w.if-largest-first.false)))
-    ]
 
 pub returns : goal.returns
-returns c = largest_end _ _ _ _ c.loop-i.invariant c.loop-i-test.false ∙ first_is _
+returns c =
+    let s = c.args.set.elements.now in
+    c.unwrap_or.ensures
+    ∙ ap (λ o. unwrap_or o 0)
+    (reduce_from_yields_List _ c.map.result _ c.max.ensures.ran
+    (YieldsList-from_map _ f (YieldsList-from_slice s cc) c.map.ensures.closure (λ x b q k. search (rules, tests))))
+    ∙ max_of_map f s
+    ∙ first_max s

@@ -1,13 +1,14 @@
-use Rattle.std.proofs.Common.{rules, sym, ◌∙◌, ◌≤◌, length}
-use Rattle.printer.proofs.AnsweredLaws.{shown_over}
+use Rattle.std.proofs.Common.{[], sym, ◌∙◌, arith, rules}
+use Rattle.printer.specs.Answered.{printed_of}
+use Rattle.printer.specs.Growing.{Grows}
+use Rattle.printer.proofs.TextLaws.{shown_grows}
+use Rattle.printer.proofs.answers.put_answers.Goals.{in-Ok, in-Err}
 use Rattle.printer.proofs.answers.put_answers.Goals as goal
 
-pub returns-in-Refusal : goal.returns-in-Refusal
-returns-in-Refusal c =
-    let room : 356 ≤ length c.args.out.now = search rules in
-    shown_over c.args.exact c.args.one c.args.two c.args.hundred room (sym c.in-Refusal.is ∙ c.shown_of.ensures) c.put_refused.ensures
-
-pub returns-in-Lines : goal.returns-in-Lines
-returns-in-Lines c =
-    let room : 356 ≤ length c.args.out.now = search rules in
-    shown_over c.args.exact c.args.one c.args.two c.args.hundred room (sym c.in-Lines.is ∙ c.shown_of.ensures) c.put_lines.ensures
+pub returns : goal.returns
+returns c =
+    let grown : Grows 356 (printed_of c.args.answers) [] c.match-shown_of.text.bytes = elim c.match-shown_of.branch [
+      | in-Ok w ↦ rw w.text-is (shown_grows c.args.answers (sym w.in-Ok.is ∙ c.shown_of.ensures) c.new-text.ensures (omega arith) w.push_verdicts.ensures)
+      | in-Err w ↦ rw w.text-is (shown_grows c.args.answers (sym w.in-Err.is ∙ c.shown_of.ensures) c.new-text.ensures (omega arith) w.push_refusal.ensures)
+    ] in
+    rw (← grown.whole) (search (rules, grown.short))

@@ -1,65 +1,82 @@
-use Rattle.std.proofs.Common.{rules, arith, ◌≡◌, length, refl, sym, ◌∙◌}
-use Rattle.model.specs.Elements.{places}
-use Rattle.theory.proofs.PlaceLaws.{legal_places}
-use Rattle.places.proofs.ColumnLaws.{Laid, laid}
-use Rattle.load.proofs.LoadedLaws.{demand_at_lem}
-use Rattle.superposition_test.proofs.WalkLaws.{Turning, start, none_left, movable, turn, sum_fits, failing, again}
+use Rattle.std.proofs.Common.{arith, rules, get_or, ◌≡◌, sym, ap, ◌∙◌, true, [], ◌∷◌, ◌++◌, length, take_all}
+use Rattle.std.proofs.lemmas.List.{map_more, take_more_set}
+use Rattle.model.specs.Elements.{filler, is_legal}
+use Rattle.model.proofs.OverLaws.{all_each, each_at}
+use Rattle.superposition_test.specs.Walk.{row_of}
+use Rattle.superposition_test.proofs.WalkLaws.{Turning, start, none_left, movable, turn, sum_fits, due_fits, top_fits, failing, again}
 use Rattle.superposition_test.proofs.walk.walk.Goals as goal
-use Rattle.superposition_test.proofs.walk.walk.Goals.{Start, After-lay, After-move_on-moved}
+use Rattle.superposition_test.proofs.walk.walk.Goals.{After-move_on-moved}
 
-long : (c : Start) → length c.args.set.table ≡ places
-long c = search rules
+pub row_of-requires-clause-legal : goal.row_of-requires-clause-legal
+row_of-requires-clause-legal c =
+    let s = c.args.set.elements.now in
+    each_at (λ e. is_legal e ≡ true) s c.loop-i.i _ c.loop-i-test.true (all_each s is_legal c.args.set.legal)
 
--- the columns that `lay` leaves
-columns : (c : After-lay) → length c.args.set.table ≡ places → Laid c.args.set c.lay.new.next c.lay.new.step c.lay.new.cost
-columns c table = let e = c.lay.ensures in laid _ (legal_places _ table c.requires.legal) _ _ _ _ _ _ refl refl refl e.0 e.1 e.2
+pub loop-i-preserved : goal.loop-i-preserved
+loop-i-preserved c =
+    let k = c.loop-i.invariant in
+    record {
+      long = search rules;
+      laid =
+          rw c.row_of.ensures (
+          take_more_set c.loop-i.table c.loop-i.i _ (omega (arith, c.loop-i-test.true, c.args.set.few, k.long))
+          ∙ ap (λ rows. rows ++ row_of c.args.k c.args.h (get_or c.args.set.elements.now c.loop-i.i filler) ∷ []) k.laid
+          ∙ sym (map_more (row_of c.args.k c.args.h) c.args.set.elements.now c.loop-i.i filler c.loop-i-test.true)
+          );
+    }
 
--- every place that has the length has moved on
-turned : (c : After-move_on-moved) →
-    Turning c.args.set c.args.k c.args.h c.lay.new.step c.lay.new.cost c.lay_limits.new.last c.lay_limits.new.rise
-    c.move_on-moved.new.next c.loop-set.before c.loop-set.scaled c.loop-set.slope c.loop-set.count
-    c.least-at.result c.move_on-moved.result.cost c.move_on-moved.result.rise
-turned c = turn _ _ _ c.loop-set.invariant _ c.least-at.ensures (omega (arith, c.if-at.false)) c.move_on-moved.ensures
+pub loop-at-init : goal.loop-at-init
+loop-at-init c =
+    let s = c.args.set.elements.now in
+    let all : c.loop-i.i ≡ length s = omega (arith, c.loop-i.auto.i-end, c.loop-i-test.false) in
+    start s _ _ c.args.set.legal c.args.set.few c.requires _ _ (rw all at c.loop-i.invariant.laid ∙ rw (take_all (length s) s (omega arith))) c.least-at.ensures
 
-pub lay_limits-requires-clause-stepped : goal.lay_limits-requires-clause-stepped
-lay_limits-requires-clause-stepped c =
-    let at = goal.at.lay_limits-requires-clause-stepped c in
-    record { steps = (columns at.After-lay (long at.Start)).steps }
-
-pub loop-set-init : goal.loop-set-init
-loop-set-init c =
-    let at = goal.at.loop-set-init c in
-    let table = long at.Start in
-    start _ _ _ (legal_places _ table c.requires.legal) c.requires _ _ _ _ _ (columns at.After-lay table) c.lay_limits.ensures
-
-pub returns-then-at : goal.returns-then-at
-returns-then-at c = none_left _ _ _ c.loop-set.invariant (rw c.if-at.true at c.least-at.ensures)
+pub returns-clause-verdict : goal.returns-clause-verdict
+returns-clause-verdict c = none_left _ _ _ c.loop-at.invariant c.loop-at-test.false
 
 pub move_on-moved-requires : goal.move_on-moved-requires
-move_on-moved-requires c = movable _ _ _ c.loop-set.invariant _ c.least-at.ensures (omega (arith, c.if-at.false))
+move_on-moved-requires c = movable _ _ _ c.loop-at.invariant (omega (arith, c.loop-at-test.true, c.loop-at.auto.at-fits))
+
+-- every row that has the length has moved on
+turned : (c : After-move_on-moved) → let moved = c.move_on-moved.result in
+    Turning c.args.set.elements.now c.args.k c.args.h c.move_on-moved.new.rows
+    c.loop-at.before c.loop-at.scaled c.loop-at.slope c.loop-at.count c.loop-at.at moved.cost moved.rise moved.next
+turned c = turn _ _ _ c.loop-at.invariant (omega (arith, c.loop-at-test.true, c.loop-at.auto.at-fits)) c.move_on-moved.ensures
+
+pub overflow_sub-scaled : goal.overflow_sub-scaled
+overflow_sub-scaled c = omega (arith, (turned (goal.at.overflow_sub-scaled c).After-move_on-moved).later)
 
 pub overflow_mul-scaled : goal.overflow_mul-scaled
-overflow_mul-scaled c = omega (arith, sum_fits _ _ _ (turned c))
+overflow_mul-scaled c = omega (arith, sum_fits _ _ _ (turned (goal.at.overflow_mul-scaled c).After-move_on-moved))
 
-pub overflow_mul-scaled-in-loop-set : goal.overflow_mul-scaled-in-loop-set
-overflow_mul-scaled-in-loop-set c = omega (arith, sum_fits _ _ _ (turned c))
+pub overflow_mul-scaled-in-loop-at : goal.overflow_mul-scaled-in-loop-at
+overflow_mul-scaled-in-loop-at c = omega (arith, sum_fits _ _ _ (turned (goal.at.overflow_mul-scaled-in-loop-at c).After-move_on-moved))
 
 pub overflow_add-scaled : goal.overflow_add-scaled
-overflow_add-scaled c = omega (arith, sum_fits _ _ _ (turned c))
+overflow_add-scaled c = omega (arith, sum_fits _ _ _ (turned (goal.at.overflow_add-scaled c).After-move_on-moved))
 
-pub overflow_add-scaled-in-loop-set : goal.overflow_add-scaled-in-loop-set
-overflow_add-scaled-in-loop-set c = omega (arith, sum_fits _ _ _ (turned c))
+pub overflow_add-scaled-in-loop-at : goal.overflow_add-scaled-in-loop-at
+overflow_add-scaled-in-loop-at c = omega (arith, sum_fits _ _ _ (turned (goal.at.overflow_add-scaled-in-loop-at c).After-move_on-moved))
 
-pub returns-then-h-at : goal.returns-then-h-at
-returns-then-h-at c =
-    let w = turned (goal.at.returns-then-h-at c).After-move_on-moved in
-    rw (c.demand_at-demand.ensures ∙ sym (demand_at_lem _ _ w.fit.legal (omega (arith, w.numbers.length)))) (failing _ _ _ w c.if-h-at.true)
+pub overflow_add-count : goal.overflow_add-count
+overflow_add-count c =
+    let w = turned (goal.at.overflow_add-count c).After-move_on-moved in
+    omega (arith, w.few, w.later, w.numbers.length, due_fits _ _ _ w)
+
+pub overflow_mul-h : goal.overflow_mul-h
+overflow_mul-h c = omega (arith, top_fits _ _ _ (turned (goal.at.overflow_mul-h c).After-move_on-moved))
+
+pub returns-then-h-at-clause-short : goal.returns-then-h-at-clause-short
+returns-then-h-at-clause-short c = omega (arith, (turned (goal.at.returns-then-h-at-clause-short c).After-move_on-moved).numbers.length)
+
+pub returns-then-h-at-clause-verdict : goal.returns-then-h-at-clause-verdict
+returns-then-h-at-clause-verdict c = failing _ _ _ (turned (goal.at.returns-then-h-at-clause-verdict c).After-move_on-moved) c.if-h-at.true
 
 pub overflow_add-slope : goal.overflow_add-slope
 overflow_add-slope c = omega (arith, (turned (goal.at.overflow_add-slope c).After-move_on-moved).slope_small)
 
-pub loop-set-smaller : goal.loop-set-smaller
-loop-set-smaller c = omega (arith, (turned (goal.at.loop-set-smaller c).After-move_on-moved).within)
+pub loop-at-smaller : goal.loop-at-smaller
+loop-at-smaller c = omega (arith, (turned (goal.at.loop-at-smaller c).After-move_on-moved).within)
 
-pub loop-set-preserved : goal.loop-set-preserved
-loop-set-preserved c = again _ _ _ (turned (goal.at.loop-set-preserved c).After-move_on-moved) c.if-h-at.false
+pub loop-at-preserved : goal.loop-at-preserved
+loop-at-preserved c = again _ _ _ (turned (goal.at.loop-at-preserved c).After-move_on-moved) c.if-h-at.false

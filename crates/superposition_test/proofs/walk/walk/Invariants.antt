@@ -1,11 +1,18 @@
-use Rattle.std.proofs.Common.{◌-◌}
-use Rattle.model.specs.Elements.{counted}
+use Rattle.std.proofs.Common.{◌≡◌, ◌-◌, length, map, take}
+use Rattle.model.specs.Elements.{places}
 use Rattle.theory.specs.Approximation.{budget}
+use Rattle.superposition_test.specs.Walk.{row_of}
 use Rattle.superposition_test.proofs.WalkLaws.{Walking}
 use Rattle.superposition_test.proofs.walk.walk.Given as goal
 
-abbrev pub invariant-loop-set : goal.invariant-loop-set
-invariant-loop-set l = Walking l.set l.k l.h l.step l.cost l.last l.rise l.next l.before l.scaled l.slope l.count
+abbrev pub invariant-loop-i : goal.invariant-loop-i
+invariant-loop-i l = record {
+  long : length l.table ≡ places;
+  laid : take l.i l.table ≡ map (row_of l.k l.h) (take l.i l.e-items);
+}
 
-abbrev pub decreases-loop-set : goal.decreases-loop-set
-decreases-loop-set l = budget l.k (counted l.set) - l.count
+abbrev pub invariant-loop-at : goal.invariant-loop-at
+invariant-loop-at l = Walking l.fn.set.elements.now l.k l.h l.rows l.before l.scaled l.slope l.count l.at
+
+abbrev pub decreases-loop-at : goal.decreases-loop-at
+decreases-loop-at l = budget l.k l.fn.set.elements.now - l.count
