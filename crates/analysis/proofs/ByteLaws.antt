@@ -1,20 +1,18 @@
 -- What holds whenever `kind_byte` turns to the record i, and where 8 stands in bytes. Assumes nothing.
 use Prim.Native.Nat.{ℕ, zero, suc, ◌+◌, ◌-◌, ◌≤◌, ◌<◌}
-use mathlib.Core.Path.{◌≡◌, refl, sym, ap, ◌∙◌}
+use mathlib.Core.Path.{◌≡◌, refl, sym, ap, subst, ◌∙◌}
 use mathlib.Core.Bool.{Bool, true, false, cond}
 use mathlib.Core.List.{List}
 use mathlib.Core.Logic.{⊎_elim}
 use native.Mathlib.Omega.{arith}
 use lib.Dec.{leb}
 use lib.ListN.{length, drop, length-drop}
-use borrow.Author.Tests.{ne_eqb}
 use Rattle.std.specs.Prelude.{Ok, Err}
 use Rattle.model.specs.declared.elements.Element.{Element}
 use Rattle.model.specs.declared.answers.Reason.{Reason}
 use Rattle.model.specs.declared.answers.Reason.TheVariants.{UnknownKind, RecordCut, TooManyElements, PeriodOutOfRange, OffsetOutOfRange, DeadlineOutOfRange, CostOutOfRange, HyperperiodAboveLimit, KOutOfRange, BufferTooShort}
 use Rattle.model.specs.declared.answers.Refusal.{Refusal}
 use Rattle.model.specs.declared.answers.Verdict.{Verdict}
-use Rattle.model.specs.Answers.{Answer}
 use Rattle.model.specs.Elements.{places, most_h}
 use Rattle.model.specs.Demand.{H}
 use Rattle.model.specs.TurnedAway.{turned, unless, first_above, check_h, answered, analysis}
@@ -109,13 +107,16 @@ unfolding first_above
 first_within s = least_most _ (length s)
 
 module _ (verdict : List Element → Verdict) (s : List Element) where
-  pub answer_placed : Placed (length s) (answer_of verdict s)
+  answer_placed : Placed (length s) (answer_of verdict s)
   unfolding analysis check_h unless
   answer_placed = go (leb (H s) most_h)
     where
       go : (small : Bool) → Placed (length s) (answered (cond small (Ok tt) (turned HyperperiodAboveLimit (first_above s))) (verdict s))
       go false = λ n. first_within s
       go true = tt
+
+  pub refusal_placed : {r : Refusal} → Err r ≡ answer_of verdict s → r.reason ≡ HyperperiodAboveLimit → r.place ≤ length s
+  refusal_placed h = subst (Placed (length s)) (sym h) answer_placed
 
   pub answer_in_bytes : (b : List ℕ) → in_bytes b (answer_of verdict s) ≡ analysis (Ok tt) (kind_byte b) verdict s
   unfolding analysis check_h unless

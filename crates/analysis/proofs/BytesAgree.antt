@@ -23,7 +23,7 @@ use Rattle.exact_test.specs.FunctionContracts.{ExactSays}
 use Rattle.superposition_test.specs.FunctionContracts.{SuperpositionSays}
 use Rattle.analysis.specs.InBytes.{kind_byte, exact_of_bytes, superposition_of_bytes}
 use Rattle.analysis.specs.FunctionContracts.{ExactOfBytesSays, SuperpositionOfBytesSays}
-use Rattle.analysis.specs.LegalSets.{answer_of, in_bytes}
+use Rattle.analysis.specs.LegalSets.{answer_of, of_set, of_bytes, in_bytes}
 use Rattle.analysis.proofs.EntryLaws.{set_taken, bytes_taken, k_passed}
 
 -- THEOREM: the kind byte of a record stands after the records before it
@@ -45,8 +45,7 @@ module _ (b : List ℕ) (s : List Element) (records : AreRecords b s) where
   -- with a test, whatever its verdict
   agrees :
       (verdict : List Element → Verdict) →
-      analysis (check_records places 0 b) (kind_byte b) verdict (elements_in places b) ≡
-      in_bytes b (analysis (check_set (set_of s)) (λ place. place) verdict (counted (set_of s)))
+      of_bytes verdict b ≡ in_bytes b (of_set verdict (set_of s))
   agrees verdict =
       sym (bytes_taken verdict b (records_fine b s records))
       ∙ ap (λ es. in_bytes b (answer_of verdict es)) same_elements

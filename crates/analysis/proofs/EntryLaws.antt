@@ -10,30 +10,27 @@ use Rattle.model.specs.declared.answers.Verdict.{Verdict}
 use Rattle.model.specs.Answers.{Answer, Check}
 use Rattle.model.specs.Elements.{places, counted}
 use Rattle.model.specs.Superposition.{superposition}
-use Rattle.model.specs.TurnedAway.{◌then◌, check_set, check_k, analysis}
+use Rattle.model.specs.TurnedAway.{◌then◌, check_set, check_k, superposition_answer}
 use Rattle.wire.specs.Reading.{check_records, elements_in, read_set}
 use Rattle.model.proofs.ElementLaws.{legal_set, set_counted}
 use Rattle.model.proofs.TurnedAwayLaws.{set_fine}
 use Rattle.theory.proofs.AnswerLaws.{refused_before, fine_before}
 use Rattle.wire.proofs.ReadingLaws.{elements_legal, read_elements}
-use Rattle.analysis.specs.InBytes.{kind_byte}
-use Rattle.analysis.specs.LegalSets.{answer_of, in_bytes}
+use Rattle.analysis.specs.InBytes.{kind_byte, superposition_of_bytes}
+use Rattle.analysis.specs.LegalSets.{answer_of, of_set, of_bytes, in_bytes}
 use Rattle.analysis.proofs.ByteLaws.{answer_in_bytes}
 
 -- A TEST OF BYTES, whatever its verdict
 module _ (verdict : List Element → Verdict) where
   -- a set in memory whose count and values are fine
-  pub set_taken : (t : TaskSet) → check_set t ≡ Ok tt → answer_of verdict (counted t) ≡ analysis (check_set t) (λ place. place) verdict (counted t)
+  pub set_taken : (t : TaskSet) → check_set t ≡ Ok tt → answer_of verdict (counted t) ≡ of_set verdict t
   set_taken t h = fine_before (check_set t) (λ place. place) verdict (counted t) h
 
   module _ (b : List ℕ) where
-    abbrev answer : Answer
-    answer = analysis (check_records places 0 b) (kind_byte b) verdict (elements_in places b)
-
-    pub bytes_taken : check_records places 0 b ≡ Ok tt → in_bytes b (answer_of verdict (elements_in places b)) ≡ answer
+    pub bytes_taken : check_records places 0 b ≡ Ok tt → in_bytes b (answer_of verdict (elements_in places b)) ≡ of_bytes verdict b
     bytes_taken h = answer_in_bytes verdict (elements_in places b) b ∙ fine_before (check_records places 0 b) (kind_byte b) verdict (elements_in places b) h
 
-    pub bytes_refused : {r : Refusal} → Err r ≡ check_records places 0 b → Err r ≡ answer
+    pub bytes_refused : {r : Refusal} → Err r ≡ check_records places 0 b → Err r ≡ of_bytes verdict b
     bytes_refused h = refused_before (check_records places 0 b) (kind_byte b) verdict (elements_in places b) (sym h)
 
     -- the set that is read where no record is refused
@@ -47,14 +44,23 @@ module _ (verdict : List Element → Verdict) where
           let set = read ∙ read_elements b fine in
           (set_fine t).1 ((legal_set t).1 (rw (ap (λ u. u.count) set) legal.1, rw elements_read legal.0))
 
-      pub answer_read : analysis (check_set t) (λ place. place) verdict (counted t) ≡ answer_of verdict (elements_in places b)
+      pub answer_read : of_set verdict t ≡ answer_of verdict (elements_in places b)
       answer_read = sym (set_taken t set_is_fine) ∙ ap (answer_of verdict) elements_read
 
 -- k LOOKED AT FIRST
-pub k_refused_first :
-    (k : ℕ) (rest : Check) (place_of : ℕ → ℕ) (s : List Element) {r : Refusal} →
-    Err r ≡ check_k k → Err r ≡ analysis (check_k k then rest) place_of (superposition k) s
-k_refused_first k rest place_of s h = refused_before (check_k k then rest) place_of (superposition k) s (rw (sym h))
-
 pub k_passed : (k : ℕ) (rest : Check) → check_k k ≡ Ok tt → rest ≡ (check_k k then rest)
 k_passed k rest h = rw h
+
+module _ (k : ℕ) where
+  pub k_refused : (b : List ℕ) {r : Refusal} → Err r ≡ check_k k → Err r ≡ superposition_of_bytes k b
+  unfolding superposition_of_bytes
+  k_refused b h = refused_before (check_k k then check_records places 0 b) (kind_byte b) (superposition k) (elements_in places b) (rw (sym h))
+
+  module _ (passed : Ok tt ≡ check_k k) where
+    pub in_memory_after_k : (t : TaskSet) (a : Answer) → a ≡ superposition_answer k t → a ≡ of_set (superposition k) t
+    unfolding superposition_answer
+    in_memory_after_k t a h = h ∙ rw (sym passed)
+
+    pub in_bytes_after_k : (b : List ℕ) → of_bytes (superposition k) b ≡ superposition_of_bytes k b
+    unfolding superposition_of_bytes
+    in_bytes_after_k b = rw (sym passed)

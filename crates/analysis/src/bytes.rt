@@ -5,11 +5,12 @@ ghost use Rattle.model.specs.declared.elements.TaskSet.{TaskSet};
 ghost use Rattle.model.specs.declared.answers.Reason.TheVariants.{HyperperiodAboveLimit};
 ghost use Rattle.model.specs.declared.answers.Verdict.{Verdict};
 ghost use Rattle.model.specs.Answers.{Answer};
-ghost use Rattle.model.specs.Elements.{places, counted};
-ghost use Rattle.model.specs.TurnedAway.{check_set, analysis};
+ghost use Rattle.model.specs.Elements.{places};
+ghost use Rattle.model.specs.Superposition.{superposition};
+ghost use Rattle.model.specs.TurnedAway.{check_k};
 ghost use Rattle.wire.specs.Reading.{check_records, elements_in};
 ghost use Rattle.analysis.specs.InBytes.{kind_byte};
-ghost use Rattle.analysis.specs.LegalSets.{refusal_in_bytes};
+ghost use Rattle.analysis.specs.LegalSets.{of_set, of_bytes, refusal_in_bytes};
 ghost use Rattle.analysis.specs.FunctionContracts.{ExactOfBytesSays, SuperpositionOfBytesSays};
 
 use exact_test::exact;
@@ -54,8 +55,8 @@ fn of_bytes<T: FnOnce(TaskSet) -> Result<Verdict, Refusal>>(
 ) -> Result<Verdict, Refusal>
     ghost verdict: { List Element → Verdict }
     requires any_set { T.IsAlwaysCallable test }
-    requires in_memory { (t : TaskSet) (a : Answer) → T.post test t a → a ≡ analysis (check_set t) (λ place. place) verdict (counted t) }
-    ensures { result ≡ analysis (check_records places 0 bytes.now) (kind_byte bytes.now) verdict (elements_in places bytes.now) }
+    requires in_memory { (t : TaskSet) (a : Answer) → T.post test t a → a ≡ of_set verdict t }
+    ensures { result ≡ of_bytes verdict bytes.now }
 {
     let mut set = empty_set();
     read_into(bytes, &mut set)?;
@@ -65,6 +66,7 @@ fn of_bytes<T: FnOnce(TaskSet) -> Result<Verdict, Refusal>>(
     }
 }
 
+#[tactic(auto, unfolding(model::specs::TurnedAway::exact_answer, crate::specs::InBytes::exact_of_bytes))]
 pub fn exact_of_bytes(bytes: &[u8]) -> Result<Verdict, Refusal>
     ensures { ExactOfBytesSays bytes.now result }
 {
@@ -72,9 +74,16 @@ pub fn exact_of_bytes(bytes: &[u8]) -> Result<Verdict, Refusal>
 }
 
 // k is looked at first.
+#[tactic(auto, using(crate::proofs::EntryLaws::k_refused, crate::proofs::EntryLaws::in_memory_after_k, crate::proofs::EntryLaws::in_bytes_after_k))]
 pub fn superposition_of_bytes(bytes: &[u8], k: u32) -> Result<Verdict, Refusal>
     ensures { SuperpositionOfBytesSays bytes.now k result }
 {
     check_k(k)?;
-    of_bytes(bytes, move |set| superposition(set, k))
+    of_bytes(
+        bytes,
+        move |set: TaskSet| -> Result<Verdict, Refusal>
+            requires { check_k k ≡ Ok tt }
+            ensures { result ≡ of_set (superposition k) set }
+        { superposition(set, k) },
+    )
 }

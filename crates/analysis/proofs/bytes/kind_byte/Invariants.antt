@@ -1,5 +1,5 @@
 use Rattle.analysis.proofs.ByteLaws.{Passing}
 use Rattle.analysis.proofs.bytes.kind_byte.Given as goal
 
-abbrev pub invariant-loop-1 : goal.invariant-loop-1
-invariant-loop-1 l = Passing l.bytes l.number l.i l.left
+abbrev pub invariant-loop : goal.invariant-loop
+invariant-loop l = Passing l.bytes l.number l.counter l.left
