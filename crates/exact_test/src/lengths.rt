@@ -1,23 +1,23 @@
 // The test lengths below a bound, compared segment by segment.
 ghost use Rattle.std.specs.Prelude.{◌≤◌, ◌≡◌, length, map};
+ghost use Rattle.model.specs.Demand.{f};
 ghost use Rattle.model.specs.ExactTest.{comparing};
 ghost use Rattle.model.specs.declared.answers.Verdict.TheVariants.{Overrun};
 ghost use Rattle.theory.specs.TestLengths.{lengths_below};
-ghost use Rattle.places.specs.Columns.{most_bound, place_of};
+ghost use Rattle.places.specs.Columns.{most_bound};
 ghost use Rattle.exact_test.specs.Segments.{verdict_of};
 
 use crate::segments::{Compared, Segment, TICKS, WORDS};
-use model::elements::PLACES;
+use model::elements::{PLACES, first_due};
 use model::{Element, LegalSet, Verdict};
-use places::columns::{Place, place_of};
 
-// The elements' places, from their first dates on.
-fn lay_out(elements: &[Element], places: &mut [Place])
-    requires { length places.old ≡ length elements.now }
-    ensures { places.new ≡ map place_of elements.now }
+// The elements' first dates.
+fn first_dates(elements: &[Element], next: &mut [u64])
+    requires { length next.old ≡ length elements.now }
+    ensures { next.new ≡ map f elements.now }
 {
     for (i, e) in elements.iter().enumerate() {
-        places[i] = place_of(*e);
+        next[i] = first_due(*e);
     }
 }
 
@@ -26,13 +26,9 @@ fn compare_segments(set: LegalSet, bound: u64) -> Result<Compared, Verdict>
     requires { bound ≤ most_bound }
     ensures { verdict_of result ≡ comparing set.entry.elements.now Overrun (lengths_below set.entry.elements.now bound) }
 {
-    let mut table = [Place {
-        next: 0,
-        step: 0,
-        cost: 0,
-    }; PLACES];
-    let places = &mut table[..set.elements.len()];
-    lay_out(set.elements, places);
+    let mut dates = [0; PLACES];
+    let next = &mut dates[..set.elements.len()];
+    first_dates(set.elements, next);
     let mut segment = Segment {
         due: [0; TICKS],
         marks: [0; WORDS],
@@ -45,7 +41,7 @@ fn compare_segments(set: LegalSet, bound: u64) -> Result<Compared, Verdict>
     };
     while base < bound {
         let len = (bound - base).min(TICKS as u64);
-        let low = segment.fill(places, base, len);
+        let low = segment.fill(set.elements, next, base, len);
         compared = segment.sweep(base, compared)?;
         base = low;
     }

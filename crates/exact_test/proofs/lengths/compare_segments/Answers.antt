@@ -1,6 +1,7 @@
 use Rattle.std.proofs.Common.{sym, ◌∙◌}
 use Rattle.std.proofs.lemmas.Result.{err_from_is_err_and}
 use Rattle.exact_test.proofs.SegmentsMeetDemand.{none_marked}
+use Rattle.exact_test.proofs.DatedPlaces.{dated_first}
 use Rattle.exact_test.proofs.ComparingSegments.{start, end, sweep_fits, swept, next_stage}
 use Rattle.exact_test.proofs.lengths.compare_segments.Goals as goal
 
@@ -8,7 +9,7 @@ pub invariant_of-segment : goal.invariant_of-segment
 invariant_of-segment c = none_marked
 
 pub loop-base-init : goal.loop-base-init
-loop-base-init c = rw c.lay_out.ensures (start c.args.set.legal c.args.set.few c.requires)
+loop-base-init c = rw (c.first_dates.ensures, dated_first c.args.set.elements.now) (start c.args.set.legal c.args.set.few c.requires)
 
 pub sweep-requires-clause-sums_fit : goal.sweep-requires-clause-sums_fit
 sweep-requires-clause-sums_fit c = sweep_fits c.loop-base.invariant c.loop-base-test.true c.min-len.ensures c.fill-low.ensures
