@@ -1,6 +1,6 @@
 -- The elements as places with their next dates: what each place is, and a date that is put. Assumes nothing.
 use Prim.Native.Nat.{ℕ, zero, suc, ◌<◌}
-use mathlib.Core.Path.{◌≡◌, refl, ap, ap₂, ◌∙◌}
+use mathlib.Core.Path.{◌≡◌, refl, ap}
 use mathlib.Core.List.{List, [], ◌∷◌, map}
 use native.Mathlib.Omega.{arith}
 use lib.ListN.{length, get_or, set}

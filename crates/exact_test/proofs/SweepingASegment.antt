@@ -5,7 +5,6 @@ use mathlib.Core.List.{List}
 use native.Mathlib.Decide.{dec_lt, ℕ_discrete}
 use native.Mathlib.Nat.{pos_of_ne-zero}
 use native.Mathlib.Omega.{arith}
-use lib.Count.{count_trailing_zeros}
 use lib.ListN.{length, get_or, set, length-set, get_or-eq_default}
 use lib.Seq.{get_or-set_same, get_or-set_other}
 use Rattle.std.specs.Prelude.{Ok, Err}

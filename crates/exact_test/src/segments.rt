@@ -62,7 +62,13 @@ impl Segment {
     }
 
     // Adds the elements' dates below base + len, from the next of each on, and moves these on; gives the least of them.
-    pub(crate) fn fill(&mut self, elements: &[Element], next: &mut [u64], base: u64, len: u64) -> u64
+    pub(crate) fn fill(
+        &mut self,
+        elements: &[Element],
+        next: &mut [u64],
+        base: u64,
+        len: u64,
+    ) -> u64
         requires nothing_due { Zero self.old }
         requires long { length next.old ≡ length elements.now }
         requires addable { Addable (dated elements.now next.old) base }
