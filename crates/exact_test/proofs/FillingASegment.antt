@@ -7,9 +7,13 @@ use native.Mathlib.Omega.{arith}
 use lib.ListN.{length, get_or, set, take, length-set}
 use lib.Seq.{take_all, get_or-set_same, get_or-set_other}
 use borrow.Author.Count.{below_more}
-use Rattle.model.specs.Elements.{most_cost}
+use Rattle.std.proofs.lemmas.List.{set-get_or}
+use Rattle.model.specs.declared.elements.Element.{Element}
+use Rattle.model.specs.Elements.{most_cost, filler}
 use Rattle.places.specs.declared.columns.Place.{Place}
-use Rattle.exact_test.specs.Segments.{IsWord, due_of, place_at, MovedOn, Fit, Added, Addable, Full, Zero}
+use Rattle.places.specs.Columns.{place_of}
+use Rattle.exact_test.specs.Segments.{IsWord, due_of, place_at, at_date, dated, MovedOn, Fit, Added, Addable, Full, Zero}
+use Rattle.exact_test.proofs.DatedPlaces.{dated_long, dated_at, dated_set}
 use Rattle.exact_test.proofs.SegmentLaws.{part_most, part_before, due_none, due_more}
 
 -- the first i places are added and have moved on, the others stand as they did
@@ -60,10 +64,10 @@ module _ {rows₀ rows : List Place} {due : List ℕ} {base len low i : ℕ} (v 
     pub room : (y : ℕ) → IsWord (get_or due y 0 + (place_at rows i).cost)
     room y = omega (arith, v.small y, fits.costs.1, fit.few)
 
-    pub next :
+    pub added :
         {due' : List ℕ} {p : Place} → Added due due' (place_at rows i) p base len →
         Filling rows₀ (set rows i p) due' base len (min low p.next) (i + 1)
-    next {due'} {p} a =
+    added {due'} {p} a =
         let same = get_or-set_same rows i p (place_at [] 0) (omega (arith, v.long)) in
         record {
           long = length-set rows i p ∙ v.long;
@@ -98,3 +102,28 @@ module _ {rows₀ rows : List Place} {due : List ℕ} {base len low i : ℕ} (v 
         least = λ k u. v.least k (omega arith);
         past = v.past;
       }
+
+-- THE ELEMENTS as places with their next dates
+abbrev pub place : List Element → List ℕ → ℕ → Place
+place s next i = at_date (place_of (get_or s i filler)) (get_or next i 0)
+
+module _ (s : List Element) (next₀ next : List ℕ) {due : List ℕ} {base len low i : ℕ} (v : Filling (dated s next₀) (dated s next) due base len low i)
+    (fit : Addable (dated s next₀) base) (h : i < length s) where
+  within : i < length (dated s next₀)
+  within = omega (arith, dated_long s next₀)
+
+  pub place_fits : Fit (place s next i) base
+  place_fits = rw (dated_at s next i h) at (fits v fit within)
+
+  pub place_room : (y : ℕ) → IsWord (get_or due y 0 + (place s next i).cost)
+  place_room = rw (dated_at s next i h) at (room v fit within)
+
+  module _ (l : i < length next) where
+    pub place_added : {due' : List ℕ} {x : ℕ} → Added due due' (place s next i) (at_date (place s next i) x) base len →
+        Filling (dated s next₀) (dated s (set next i x)) due' base len (min low x) (i + 1)
+    place_added {due'} {x} a =
+        let here : Added due due' (place_at (dated s next) i) (at_date (place s next i) x) base len = rw (dated_at s next i h) a in
+        rw (dated_set s next i x h l) at (added v fit within here)
+
+    pub place_passed : base + len ≤ get_or next i 0 → Filling (dated s next₀) (dated s next) due base len (min low (get_or next i 0)) (i + 1)
+    place_passed o = rw (set-get_or next i 0) at (place_added (none_added due len place_fits o))

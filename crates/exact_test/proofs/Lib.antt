@@ -2,6 +2,7 @@ pub mod DateLaws
 pub mod BitLaws
 pub mod SegmentLaws
 pub mod AddingDates
+pub mod DatedPlaces
 pub mod FillingASegment
 pub mod SweepingASegment
 pub mod SegmentsMeetDemand

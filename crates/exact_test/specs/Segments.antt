@@ -1,12 +1,13 @@
 -- A segment of lengths: what its entries and their marks hold, and what taking them in rising order comes to.
-use Rattle.std.specs.Prelude.{ℕ, zero, suc, ◌+◌, ◌-◌, ◌*◌, ◌%◌, ◌≤◌, ◌<◌, ◌≡◌, Bool, ◌&&◌, cond, List, [], ◌∷◌, Result, Ok, Err, leb, ltb, eqb, length, get_or}
+use Rattle.std.specs.Prelude.{ℕ, zero, suc, ◌+◌, ◌-◌, ◌*◌, ◌%◌, ◌≤◌, ◌<◌, ◌≡◌, Bool, ◌&&◌, cond, List, [], ◌∷◌, Result, Ok, Err, leb, ltb, eqb, length, get_or, drop}
 use Rattle.std.specs.Int.{bit_at}
+use Rattle.model.specs.declared.elements.Element.{Element}
 use Rattle.model.specs.declared.answers.Verdict.{Verdict}
 use Rattle.model.specs.declared.answers.Verdict.TheVariants.{Passes, Overrun}
 use Rattle.model.specs.Over.{sum_over}
 use Rattle.model.specs.Elements.{most_cost, places}
 use Rattle.places.specs.declared.columns.Place.{Place}
-use Rattle.places.specs.Columns.{most_bound}
+use Rattle.places.specs.Columns.{most_bound, place_of}
 use Rattle.exact_test.specs.declared.segments.Compared.{Compared}
 
 -- a segment has so many lengths at most, an entry for each
@@ -60,6 +61,11 @@ pub record Fit (p : Place) (base : ℕ) : Type 0 where
 -- the place with its next date at I
 abbrev pub at_date : Place → ℕ → Place
 at_date p I = record { next = I; step = p.step; cost = p.cost }
+
+-- the elements as places, each with its next date
+unfoldable pub dated : List Element → List ℕ → List Place
+dated [] next = []
+dated (e ∷ s) next = at_date (place_of e) (get_or next 0 0) ∷ dated s (drop 1 next)
 
 -- the place p₀ has moved on to its first date from end on
 pub record MovedOn (p₀ p : Place) (end : ℕ) : Type 0 where

@@ -1,5 +1,6 @@
 // The test lengths below a bound, compared segment by segment.
-ghost use Rattle.std.specs.Prelude.{◌≤◌, ◌≡◌};
+ghost use Rattle.std.specs.Prelude.{◌≤◌, ◌≡◌, length, map};
+ghost use Rattle.model.specs.Demand.{f};
 ghost use Rattle.model.specs.ExactTest.{comparing};
 ghost use Rattle.model.specs.declared.answers.Verdict.TheVariants.{Overrun};
 ghost use Rattle.theory.specs.TestLengths.{lengths_below};
@@ -7,22 +8,27 @@ ghost use Rattle.places.specs.Columns.{most_bound};
 ghost use Rattle.exact_test.specs.Segments.{verdict_of};
 
 use crate::segments::{Compared, Segment, TICKS, WORDS};
-use model::elements::PLACES;
-use model::{LegalSet, Verdict};
-use places::columns::{Place, lay};
+use model::elements::{PLACES, first_due};
+use model::{Element, LegalSet, Verdict};
+
+// The elements' first dates.
+fn first_dates(elements: &[Element], next: &mut [u64])
+    requires { length next.old ≡ length elements.now }
+    ensures { next.new ≡ map f elements.now }
+{
+    for (i, e) in elements.iter().enumerate() {
+        next[i] = first_due(*e);
+    }
+}
 
 // The costs due are added up in a segment of lengths, and swept in rising order.
 fn compare_segments(set: LegalSet, bound: u64) -> Result<Compared, Verdict>
     requires { bound ≤ most_bound }
     ensures { verdict_of result ≡ comparing set.entry.elements.now Overrun (lengths_below set.entry.elements.now bound) }
 {
-    let mut table = [Place {
-        next: 0,
-        step: 0,
-        cost: 0,
-    }; PLACES];
-    let places = &mut table[..set.elements.len()];
-    lay(set.elements, places);
+    let mut dates = [0; PLACES];
+    let next = &mut dates[..set.elements.len()];
+    first_dates(set.elements, next);
     let mut segment = Segment {
         due: [0; TICKS],
         marks: [0; WORDS],
@@ -35,7 +41,7 @@ fn compare_segments(set: LegalSet, bound: u64) -> Result<Compared, Verdict>
     };
     while base < bound {
         let len = (bound - base).min(TICKS as u64);
-        let low = segment.fill(places, base, len);
+        let low = segment.fill(set.elements, next, base, len);
         compared = segment.sweep(base, compared)?;
         base = low;
     }

@@ -1,11 +1,11 @@
 // A segment of lengths: each place adds its cost at its dates, a bitmap of two levels marks them, and the marked lengths are taken in
 // rising order.
-ghost use Rattle.std.specs.Prelude.{◌≡◌, ℕ, ◌+◌, ◌≤◌, IfOk, get_or};
+ghost use Rattle.std.specs.Prelude.{◌≡◌, ℕ, ◌+◌, ◌≤◌, IfOk, length, get_or};
 ghost use Rattle.places.specs.Columns.{most_bound};
-ghost use Rattle.exact_test.specs.Segments.{ticks, most_next, IsWord, Added, Fit, Addable, Full, Zero, sweep_of, total};
+ghost use Rattle.exact_test.specs.Segments.{ticks, most_next, IsWord, Added, Fit, at_date, dated, Addable, Full, Zero, sweep_of, total};
 
-use model::Verdict;
-use places::columns::{NONE_LEFT, Place};
+use model::{Element, Verdict};
+use places::columns::{NONE_LEFT, Place, place_of};
 use std::marker::Model;
 
 // The ticks of a segment, and the words that have a bit for each.
@@ -40,12 +40,12 @@ pub(crate) struct Compared {
 }
 
 impl Segment {
-    // Adds a place's cost at its dates below base + len, and moves the place on.
-    fn add_dates(&mut self, place: &mut Place, base: u64, len: u64)
-        requires fit { Fit place.old base }
+    // Adds a place's cost at its dates below base + len; gives its next date.
+    fn add_dates(&mut self, place: Place, base: u64, len: u64) -> u64
+        requires fit { Fit place base }
         requires len_fits { (len ≤ ticks) × (base + len ≤ most_bound) }
-        requires sums_fit { (y : ℕ) → IsWord (get_or self.old y 0 + place.old.cost) }
-        ensures { Added self.old self.new place.old place.new base len }
+        requires sums_fit { (y : ℕ) → IsWord (get_or self.old y 0 + place.cost) }
+        ensures { Added self.old self.new place (at_date place result) base len }
     {
         let mut j = place.next - base;
         let mut seen = self.seen;
@@ -58,22 +58,33 @@ impl Segment {
             j += place.step;
         }
         self.seen = seen;
-        place.next = base + j;
+        base + j
     }
 
-    // Adds the dates of the places below base + len, and moves the places on; gives the least date that they have then.
-    pub(crate) fn fill(&mut self, places: &mut [Place], base: u64, len: u64) -> u64
+    // Adds the elements' dates below base + len, from the next of each on, and moves these on; gives the least of them.
+    pub(crate) fn fill(
+        &mut self,
+        elements: &[Element],
+        next: &mut [u64],
+        base: u64,
+        len: u64,
+    ) -> u64
         requires nothing_due { Zero self.old }
-        requires addable { Addable places.old base }
+        requires long { length next.old ≡ length elements.now }
+        requires addable { Addable (dated elements.now next.old) base }
         requires len_fits { (len ≤ ticks) × (base + len ≤ most_bound) }
-        ensures { Full places.old places.new self.new base len result }
+        ensures { Full (dated elements.now next.old) (dated elements.now next.new) self.new base len result }
     {
         let mut low = NONE_LEFT;
-        for place in places {
-            if place.next < base + len {
-                self.add_dates(place, base, len);
+        for (i, e) in elements.iter().enumerate() {
+            if next[i] < base + len {
+                let place = Place {
+                    next: next[i],
+                    ..place_of(*e)
+                };
+                next[i] = self.add_dates(place, base, len);
             }
-            low = low.min(place.next);
+            low = low.min(next[i]);
         }
         low
     }

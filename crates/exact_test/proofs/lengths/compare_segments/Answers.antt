@@ -1,9 +1,7 @@
-use lib.ListN.{replicate, length-replicate}
-use Rattle.std.proofs.Common.{length, sym, ◌∙◌}
-use Rattle.std.proofs.lemmas.List.{length-take-le}
+use Rattle.std.proofs.Common.{sym, ◌∙◌}
 use Rattle.std.proofs.lemmas.Result.{err_from_is_err_and}
-use Rattle.places.proofs.ColumnLaws.{laid_all}
 use Rattle.exact_test.proofs.SegmentsMeetDemand.{none_marked}
+use Rattle.exact_test.proofs.DatedPlaces.{dated_first}
 use Rattle.exact_test.proofs.ComparingSegments.{start, end, sweep_fits, swept, next_stage}
 use Rattle.exact_test.proofs.lengths.compare_segments.Goals as goal
 
@@ -11,10 +9,7 @@ pub invariant_of-segment : goal.invariant_of-segment
 invariant_of-segment c = none_marked
 
 pub loop-base-init : goal.loop-base-init
-loop-base-init c =
-    let s = c.args.set.elements.now in
-    let long = length-take-le (length s) (replicate 128 _) (rw length-replicate c.args.set.few) in
-    rw (c.lay.ensures ∙ laid_all s _ long) (start c.args.set.legal c.args.set.few c.requires)
+loop-base-init c = rw (c.first_dates.ensures, dated_first c.args.set.elements.now) (start c.args.set.legal c.args.set.few c.requires)
 
 pub sweep-requires-clause-sums_fit : goal.sweep-requires-clause-sums_fit
 sweep-requires-clause-sums_fit c = sweep_fits c.loop-base.invariant c.loop-base-test.true c.min-len.ensures c.fill-low.ensures

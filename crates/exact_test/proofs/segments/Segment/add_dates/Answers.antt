@@ -1,9 +1,6 @@
 use Rattle.std.proofs.Common.{arith}
-use Rattle.exact_test.proofs.AddingDates.{start, room, next, end}
+use Rattle.exact_test.proofs.AddingDates.{room, next, end}
 use Rattle.exact_test.proofs.segments.Segment.add_dates.Goals as goal
-
-pub loop-j-init : goal.loop-j-init
-loop-j-init c = rw (← c.self.view_is) (start c.self.invariant c.requires.fit)
 
 pub overflow_add-self : goal.overflow_add-self
 overflow_add-self c = let p = c.requires in omega (arith, room c.loop-j.invariant p.fit p.len_fits.0 c.loop-j-test.true p.sums_fit)

@@ -1,9 +1,6 @@
 use Rattle.std.proofs.Common.{arith}
-use Rattle.exact_test.proofs.SweepingASegment.{start, start_word, end_word, end, end_marked, sums_fit, late_marked, found_late, next}
+use Rattle.exact_test.proofs.SweepingASegment.{start_word, end, sums_fit, late_marked, found_late, next}
 use Rattle.exact_test.proofs.segments.Segment.sweep.Goals as goal
-
-pub loop-words-init : goal.loop-words-init
-loop-words-init c = rw (← c.self.view_is) (start c.self.invariant (rw c.self.view_is c.requires.sums_fit))
 
 pub loop-w-init : goal.loop-w-init
 loop-w-init c = start_word c.loop-words.invariant c.loop-words-test.true (omega arith)
@@ -20,14 +17,8 @@ invariant_of-self c = late_marked c.loop-w.invariant c.loop-w-test.true
 pub returns-then-at-compared-clause-value : goal.returns-then-at-compared-clause-value
 returns-then-at-compared-clause-value c = found_late c.loop-w.invariant c.loop-w-test.true (omega arith)
 
-pub loop-words-preserved : goal.loop-words-preserved
-loop-words-preserved c = end_word c.loop-w.invariant c.loop-w-test.false
-
 pub loop-w-preserved : goal.loop-w-preserved
 loop-w-preserved c = next c.loop-w.invariant c.loop-w-test.true (omega arith)
-
-pub invariant_of-self-2 : goal.invariant_of-self-2
-invariant_of-self-2 c = end_marked c.loop-words.invariant c.loop-words-test.false
 
 pub returns-clause-value : goal.returns-clause-value
 returns-clause-value c = (end c.loop-words.invariant c.loop-words-test.false).0
