@@ -1,27 +1,18 @@
 -- Laws of specs/Calls: six stores, fewer than six places, and what reading and then writing come to. Assumes nothing.
 use Prim.Native.Nat.{ℕ, ◌≤◌, ◌<◌}
 use mathlib.Core.Path.{◌≡◌, ◌∙◌}
-use mathlib.Core.List.{List, [], ◌∷◌}
-use lib.ListN.{length, set}
-use lib.Seq.{sets-eq}
+use mathlib.Core.List.{List}
+use lib.ListN.{length}
 use borrow.Author.Tests.{le-leb, lt-leb}
 use Rattle.std.specs.Prelude.{Ok, Err}
 use Rattle.model.specs.declared.answers.Refusal.{Refusal}
 use Rattle.model.specs.declared.answers.Numbers.{Numbers}
-use Rattle.writer.specs.declared.writing.Written.{Written}
-use Rattle.writer.specs.declared.writing.Written.TheVariants.{Refused}
 use Rattle.wire.specs.Reading.{read_set}
 use Rattle.model.specs.Buffers.{over}
-use Rattle.writer.specs.Writing.{write_set, buffer_after}
+use Rattle.writer.specs.Writing.{Written, write_set, buffer_after}
 use Rattle.wire.proofs.ReadingLaws.{refused_is_empty}
 use Rattle.writer.proofs.WritingLaws.{empty_changes_nothing}
 use Rattle.capi.specs.Calls.{six, returned, answer_after, CallAnswers, rewrite, rewritten, out_after}
-
-pub six_stores :
-    (l : List ℕ) (a b c d e f : ℕ) →
-    6 ≤ length l →
-    set (set (set (set (set (set l 0 a) 1 b) 2 c) 3 d) 4 e) 5 f ≡ over (a ∷ b ∷ c ∷ d ∷ e ∷ f ∷ []) l
-six_stores l a b c d e f h = sets-eq (a ∷ b ∷ c ∷ d ∷ e ∷ f ∷ []) l 0 h
 
 -- THE ANSWER
 module _ (n : Numbers) (answer : List ℕ) where

@@ -6,12 +6,13 @@ use mathlib.Core.List.{List}
 use mathlib.Core.Logic.{inr}
 use lib.ListN.{length}
 use Rattle.std.specs.Prelude.{Ok, Err}
+use Rattle.model.specs.declared.answers.Reason.TheVariants.{BufferTooShort}
 use Rattle.model.specs.declared.answers.Refusal.{Refusal}
-use Rattle.writer.specs.declared.writing.Written.TheVariants.{Bytes, Refused}
 use Rattle.wire.specs.Format.{AllBytes}
 use Rattle.wire.specs.Reading.{read_set}
 use Rattle.model.specs.Buffers.{over}
 use Rattle.writer.specs.Outcomes.{HasNoRoom}
+use Rattle.model.proofs.RowLaws.{refused_for}
 use Rattle.writer.proofs.RoundTrip.{read_has_its_bytes, read_then_write}
 use Rattle.writer.proofs.WriterIsDecided.{set_is_not_written, refused_write_changes_nothing}
 use Rattle.capi.specs.Calls.{rewrite, rewritten}
@@ -23,9 +24,9 @@ module _ (b out : List ℕ) where
       AllBytes b →
       (read_set b).check ≡ Ok tt →
       length b ≤ length out →
-      (rewrite b (length out) ≡ Bytes (length b)) × (rewritten b out ≡ over b out)
+      (rewrite b (length out) ≡ Ok (length b)) × (rewritten b out ≡ over b out)
   set_is_copied h c long =
-      let done = read_then_write b (read_set b) out _ _ h refl c long (refl, refl) in
+      let done = read_then_write b (read_set b) out _ _ h (refl, refl) c long (refl, refl) in
       let same = read_fine b out c (refl, refl) in
       (sym same.0 ∙ done.0, sym same.1 ∙ done.1)
 
@@ -34,11 +35,11 @@ module _ (b out : List ℕ) where
       AllBytes b →
       (read_set b).check ≡ Ok tt →
       length out < length b →
-      (rewrite b (length out) ≡ Err (record { number = 10; place = length b })) × (rewritten b out ≡ out)
+      (rewrite b (length out) ≡ Err (record { reason = BufferTooShort; place = length b })) × (rewritten b out ≡ out)
   set_without_room h c short =
       let its = read_has_its_bytes b h c in
       let lacks : HasNoRoom (read_set b).set (length out) 10 (length b) = record { legal = its.0; by = refl; at = ap length (sym its.1); short = short } in
-      let refused = (set_is_not_written (read_set b).set 10 (length b) (length out)).1 (inr lacks) in
+      let refused = refused_for BufferTooShort ((set_is_not_written (read_set b).set 10 (length b) (length out)).1 (inr lacks)) in
       let same = read_fine b out c (refl, refl) in
       (sym same.0 ∙ refused, sym same.1 ∙ refused_write_changes_nothing (read_set b).set out _ _ (refl, refl) _ refused)
 

@@ -6,7 +6,7 @@ ghost use Rattle.capi.specs.Calls.{six, rewrite_numbers};
 use model::{Numbers, Refusal};
 
 // Returns the refusal's number.
-#[tactic(auto, using(crate::proofs::CallLaws::six_over))]
+#[tactic(auto, unfolding(crate::specs::Calls::six))]
 pub(crate) fn put_numbers(answer: &mut [u64], n: Numbers) -> u32
     requires { 6 ≤ length answer.old }
     ensures { (result ≡ n.refusal) × (answer.new ≡ over (six n) answer.old) }

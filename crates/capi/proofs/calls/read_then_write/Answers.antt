@@ -1,13 +1,12 @@
-use Rattle.std.proofs.Common.{sym, ◌∙◌}
-use Rattle.capi.proofs.CallLaws.{refused_then_written, read_fine}
+use Rattle.std.proofs.Common.{sym}
+use Rattle.std.proofs.lemmas.Result.{err_from_is_err_and}
+use Rattle.capi.proofs.CallLaws.{read_refused, read_fine}
 use Rattle.capi.proofs.calls.read_then_write.Goals as goal
 
-pub returns-in-Fine : goal.returns-in-Fine
-returns-in-Fine c =
-    let read = c.read_into-check.ensures in
-    read_fine _ _ (sym read.0 ∙ c.in-Fine.is) (rw read.1 at c.write_set-done.ensures)
+pub returns-in_err-read_into : goal.returns-in_err-read_into
+returns-in_err-read_into c =
+    let p = err_from_is_err_and c.from_residual.result c.from_residual.ensures.1 in
+    rw (p.1, p.2) (read_refused _ _ (sym (c.in_err-read_into.ensures.0)))
 
-pub returns-in-TurnedAway : goal.returns-in-TurnedAway
-returns-in-TurnedAway c =
-    let read = c.read_into-check.ensures in
-    refused_then_written _ _ (sym read.0 ∙ c.in-TurnedAway.is) (rw read.1 at c.write_set-done.ensures.1)
+pub returns : goal.returns
+returns c = read_fine _ _ (sym (c.in_ok-read_into.ensures.0)) (rw (c.in_ok-read_into.ensures.1) at c.write_set.ensures)

@@ -6,6 +6,4 @@ pub returns-then-answer-lt-ANSWER_PLACES : goal.returns-then-answer-lt-ANSWER_PL
 returns-then-answer-lt-ANSWER_PLACES c = too_few _ _ (omega (arith, c.if-answer-lt-ANSWER_PLACES.true))
 
 pub returns : goal.returns
-returns c =
-    answered _ _ c.if-answer-lt-ANSWER_PLACES.false
-    (rw (c.numbers_of-n.ensures, c.exact_of_bytes-found.ensures) at c.put_numbers.ensures)
+returns c = answered _ _ c.if-answer-lt-ANSWER_PLACES.false (rw (c.from.ensures, c.exact_of_bytes.ensures) at c.put_numbers.ensures)

@@ -10,7 +10,7 @@ returns-then-answer-lt-ANSWER_PLACES c =
 pub returns : goal.returns
 returns c =
     let enough = c.if-answer-lt-ANSWER_PLACES.false in
-    let done = c.read_then_write-done.ensures in (
-      answered _ _ enough (rw (c.rewrite_numbers-n.ensures, done.0) at c.put_numbers.ensures),
+    let done = c.read_then_write.ensures in (
+      answered _ _ enough (rw (c.rewrite_numbers.ensures, done.0) at c.put_numbers.ensures),
       out_rewritten _ _ _ enough done.1,
     )
