@@ -13,8 +13,8 @@ use borrow.Author.Tests.{eq-eqb, ne_eqb, le-leb, lt-leb}
 use Rattle.model.specs.declared.elements.Period.{Period}
 use Rattle.model.specs.declared.elements.Period.TheVariants.{Once, Every}
 use Rattle.model.specs.declared.elements.Element.{Element}
-use Rattle.model.specs.declared.answers.Check.{Check}
 use Rattle.model.specs.declared.answers.Verdict.{Verdict}
+use Rattle.model.specs.Answers.{Check}
 use Rattle.model.specs.Elements.{places, most_h}
 use Rattle.model.specs.Demand.{H}
 use Rattle.model.specs.ExactTest.{exact}

@@ -6,9 +6,10 @@ ghost use Rattle.std.specs.Io.{ReadsAtMost};
 mod report;
 
 use crate::report::put_verdicts;
+use model::elements::empty_set;
 use printer::ROOM;
 use std::io::{self, Read};
-use wire::read_set;
+use wire::read_into;
 
 // How many bytes were read: as many as there are, up to the buffer's length.
 fn read_input(stdin: &mut impl Read, input: &mut [u8]) -> io::Result<usize>
@@ -37,7 +38,9 @@ fn read_on(stdin: &mut impl Read) {
 
 // Says how many elements were judged, so that an input cut between two records is seen.
 fn say_how_many(rt: &impl Eprint, bytes: &[u8]) {
-    let count = read_set(bytes).set.count;
+    let mut set = empty_set();
+    let _ = read_into(bytes, &mut set);
+    let count = set.count;
     let _ = eprintln!(rt; "verdict: elements judged: {count}");
 }
 
