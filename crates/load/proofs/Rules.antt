@@ -5,7 +5,7 @@ use Rattle.model.proofs.TurnedAwayLaws.{set_fine}
 use Rattle.theory.proofs.DemandLaws.{early, late}
 use Rattle.theory.proofs.LoadLaws.{joined_is, period_within}
 use Rattle.theory.proofs.SizeLaws.{first_small}
-use Rattle.theory.proofs.OverloadLaws.{at_first, at_later, later_demand}
+use Rattle.theory.proofs.OverloadLaws.{at_first, at_later}
 use Rattle.load.proofs.FindingH.{start, next, above}
 use Rattle.load.proofs.ListLaws.{period_at}
 use Rattle.load.proofs.LoadedLaws.{grows_by_load, elements_legal, elements_few, refused_first, refused_by_8, above_one, at_most_one, demand_at_lem, no_demand_refused, no_demand_past}
@@ -22,6 +22,6 @@ pub ruleset of_demand_at = (set_fine, elements_legal, elements_few, demand_at_le
 
 pub ruleset of_load = (first_small, grows_by_load)
 
-pub ruleset of_overload = (first_small, at_first, at_later, later_demand)
+pub ruleset of_overload = (first_small, at_first, at_later)
 
 pub ruleset of_load_of = (elements_legal, elements_few, refused_first, refused_by_8, above_one, at_most_one)

@@ -3,6 +3,7 @@ ghost use Rattle.std.specs.Prelude.{◌≤◌, ◌≡◌, true};
 ghost use Rattle.model.specs.Number.{gcd as the_gcd};
 ghost use Rattle.model.specs.Elements.{most_h, is_legal, is_period};
 ghost use Rattle.model.specs.Demand.{F, joined as the_joined, demand_of, D};
+ghost use Rattle.model.specs.TurnedAway.{check_set};
 ghost use Rattle.theory.specs.Sizes.{most_length};
 ghost use Rattle.load.specs.Load.{hyperperiod_of};
 ghost use Rattle.load.specs.FunctionContracts.{DemandAtSays};
@@ -94,6 +95,19 @@ pub(crate) fn demand_in(set: LegalSet, length: u64) -> u64
     set.elements.iter().map(|e| demand_of(*e, length)).sum()
 }
 
+// D of a set that is fine. By value, as `load_of_fine`.
+#[tactic(auto, using(crate::proofs::Rules::of_demand_at))]
+fn demand_of_fine(set: TaskSet, length: u64) -> u64
+    requires fine { check_set set ≡ Ok tt }
+    requires short { length ≤ most_length }
+    ensures { DemandAtSays set length result }
+{
+    let set = LegalSet {
+        elements: set.counted(),
+    };
+    demand_in(set, length)
+}
+
 // D at a length of up to 2^32 ticks, of a set that is legal; 0 of any other, or past that.
 #[tactic(auto, using(crate::proofs::Rules::of_demand_at))]
 pub fn demand_at(set: TaskSet, length: u64) -> u64
@@ -102,8 +116,5 @@ pub fn demand_at(set: TaskSet, length: u64) -> u64
     if check_set(set).is_err() || MOST_LENGTH < length {
         return 0;
     }
-    let set = LegalSet {
-        elements: set.counted(),
-    };
-    demand_in(set, length)
+    demand_of_fine(set, length)
 }

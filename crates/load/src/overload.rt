@@ -3,6 +3,7 @@ ghost use Rattle.std.specs.Prelude.{◌≤◌, ◌<◌, ◌≡◌};
 ghost use Rattle.model.specs.Elements.{most_h};
 ghost use Rattle.model.specs.Demand.{H};
 ghost use Rattle.model.specs.ExactTest.{overload as the_overload};
+ghost use Rattle.model.specs.TurnedAway.{check_set};
 ghost use Rattle.theory.specs.Sizes.{IsLoad};
 ghost use Rattle.load.specs.FunctionContracts.{LoadOfSays};
 
@@ -75,12 +76,12 @@ impl<'a> Load<'a> {
     }
 }
 
-// A refusal by 3 to 8; or verdict 2; or F, H and Q, with load at most one.
+// 8; or verdict 2; or F, H and Q. The set comes by value: this copy and that of `check_set` then share one place on the stack.
 #[tactic(auto, using(crate::proofs::Rules::of_load_of))]
-pub fn load_of(set: TaskSet) -> Result<Loaded, Refusal>
+fn load_of_fine(set: TaskSet) -> Result<Loaded, Refusal>
+    requires { check_set set ≡ Ok tt }
     ensures { LoadOfSays set result }
 {
-    check_set(set)?;
     let set = LegalSet {
         elements: set.counted(),
     };
@@ -93,4 +94,13 @@ pub fn load_of(set: TaskSet) -> Result<Loaded, Refusal>
         hyperperiod: found.hyperperiod,
         load: found.load,
     })
+}
+
+// A refusal by 3 to 8; or verdict 2; or F, H and Q, with load at most one.
+#[tactic(auto, using(crate::proofs::Rules::of_load_of))]
+pub fn load_of(set: TaskSet) -> Result<Loaded, Refusal>
+    ensures { LoadOfSays set result }
+{
+    check_set(set)?;
+    load_of_fine(set)
 }
