@@ -13,6 +13,7 @@ use borrow.Author.Tests.{eq-eqb, ne_eqb, le-leb, lt-leb}
 use Rattle.model.specs.declared.elements.Period.{Period}
 use Rattle.model.specs.declared.elements.Period.TheVariants.{Once, Every}
 use Rattle.model.specs.declared.elements.Element.{Element}
+use Rattle.model.specs.declared.answers.Reason.TheVariants.{UnknownKind, RecordCut, TooManyElements, HyperperiodAboveLimit}
 use Rattle.model.specs.declared.answers.Verdict.{Verdict}
 use Rattle.model.specs.Answers.{Check}
 use Rattle.model.specs.Elements.{places, most_h}
@@ -92,9 +93,9 @@ module _ (n : ℕ) (s : List ℕ) (h : 17 ≤ n) where
   same_check : (room place : ℕ) → check_record room place (take n s) ≡ check_record room place s
   unfolding check_record
   same_check room place = λ j.
-      unless (is_kind (same_kind j)) 1 place
-      then unless (same_whole j) 2 place
-      then unless (leb 1 room) 3 place
+      unless (is_kind (same_kind j)) UnknownKind place
+      then unless (same_whole j) RecordCut place
+      then unless (leb 1 room) TooManyElements place
       then check_element place (same_element j)
 
 -- THE RECORDS
@@ -141,7 +142,7 @@ module _ (n : ℕ) (b : List ℕ) (h : 17 * suc places ≤ n) where
   unfolding check_h
   same_h =
       let s = elements_in places b in
-      ap (unless (leb (H s) most_h) 8) (same_kind_byte (first_above s) n b (omega (arith, first_within s, few_elements places b)))
+      ap (unless (leb (H s) most_h) HyperperiodAboveLimit) (same_kind_byte (first_above s) n b (omega (arith, first_within s, few_elements places b)))
 
   same_analysis :
       {c d : Check} (verdict : List Element → Verdict) →
