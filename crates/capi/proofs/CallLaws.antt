@@ -1,12 +1,14 @@
 -- Laws of specs/Calls: six stores, fewer than six places, and what reading and then writing come to. Assumes nothing.
 use Prim.Native.Nat.{ℕ, ◌≤◌, ◌<◌}
-use mathlib.Core.Path.{◌≡◌, ◌∙◌}
+use mathlib.Core.Path.{◌≡◌, refl, ◌∙◌}
 use mathlib.Core.List.{List}
 use lib.ListN.{length}
 use borrow.Author.Tests.{le-leb, lt-leb}
 use Rattle.std.specs.Prelude.{Ok, Err}
+use Rattle.std.specs.Result.{result_and}
 use Rattle.model.specs.declared.answers.Refusal.{Refusal}
 use Rattle.model.specs.declared.answers.Numbers.{Numbers}
+use Rattle.model.specs.Answers.{Check}
 use Rattle.wire.specs.Reading.{read_set}
 use Rattle.model.specs.Buffers.{over}
 use Rattle.writer.specs.Writing.{Written, write_set, buffer_after}
@@ -34,14 +36,6 @@ module _ (b out : List ℕ) where
   unfolding rewrite rewritten
   read_refused h = (rw h, rw h)
 
-  -- and the empty set written
-  pub refused_then_written :
-      {r : Refusal} {after : List ℕ} →
-      (read_set b).check ≡ Err r →
-      after ≡ buffer_after (read_set b).set out →
-      (Err r ≡ rewrite b (length out)) × (after ≡ rewritten b out)
-  refused_then_written h p = let k = read_refused h in (k.0, p ∙ rw (refused_is_empty b h) (empty_changes_nothing out) ∙ k.1)
-
   pub read_fine :
       {w : Written} {after : List ℕ} →
       (read_set b).check ≡ Ok tt →
@@ -49,6 +43,19 @@ module _ (b out : List ℕ) where
       (w ≡ rewrite b (length out)) × (after ≡ rewritten b out)
   unfolding rewrite rewritten
   read_fine h p = (p.0 ∙ rw h, p.1 ∙ rw h)
+
+  -- the set that was read is written whatever the reader found: that of a refused read is empty
+  pub written_all_the_same :
+      {w : Written} {after : List ℕ} →
+      w ≡ write_set (read_set b).set (length out) →
+      after ≡ buffer_after (read_set b).set out →
+      (result_and (read_set b).check w ≡ rewrite b (length out)) × (after ≡ rewritten b out)
+  unfolding rewrite rewritten
+  written_all_the_same {w} {after} p q = (rw p, go (read_set b).check refl)
+    where
+      go : (c : Check) → (read_set b).check ≡ c → after ≡ rewritten b out
+      go (Ok u) h = q ∙ rw h
+      go (Err r) h = q ∙ rw (refused_is_empty b h) (empty_changes_nothing out) ∙ (read_refused h).1
 
   module _ (answer : List ℕ) where
     pub out_kept : length answer < 6 → out ≡ out_after b out answer

@@ -1,5 +1,6 @@
 -- What the calls from C return and leave in what they are lent. include/simaurkoi.h says the same in words.
 use Rattle.std.specs.Prelude.{ℕ, ◌≡◌, cond, List, [], ◌∷◌, leb, length, Ok, Err}
+use Rattle.std.specs.Result.{result_and}
 use Rattle.model.specs.declared.answers.Numbers.{Numbers}
 use Rattle.model.specs.Answers.{Check}
 use Rattle.wire.specs.Reading.{read_set}
@@ -23,12 +24,8 @@ abbrev pub CallAnswers : Numbers → List ℕ → ℕ → List ℕ → Type 0
 CallAnswers n before r after = (r ≡ returned n before) × (after ≡ answer_after n before)
 
 -- REWRITING: the reader's refusal, or what the writer answers for the set that was read
-abbrev pub unless_turned_away : Check → Written → Written
-unless_turned_away (Ok u) w = w
-unless_turned_away (Err r) w = Err r
-
 unfoldable pub rewrite : List ℕ → ℕ → Written
-rewrite b room = unless_turned_away (read_set b).check (write_set (read_set b).set room)
+rewrite b room = result_and (read_set b).check (write_set (read_set b).set room)
 
 -- its six numbers: the third is the bytes written
 unfoldable pub rewrite_numbers : Written → Numbers

@@ -35,13 +35,14 @@ pub extern "C" fn simaurkoi_superposition(set: &[u8], k: u32, answer: &mut [u64]
     put_numbers(answer, Numbers::from(superposition_of_bytes(set, k)))
 }
 
-// A refused read writes nothing.
+// The set of a refused read is empty: writing it changes no byte. With no way out before it the compiler copies no set.
 fn read_then_write(set: &[u8], out: &mut [u8]) -> Result<usize, Refusal>
     ensures { (result ≡ rewrite set.now (length out.old)) × (out.new ≡ rewritten set.now out.old) }
 {
     let mut read = empty_set();
-    read_into(set, &mut read)?;
-    write_set(read, out)
+    let check = read_into(set, &mut read);
+    let done = write_set(read, out);
+    check.and(done)
 }
 
 #[unsafe(no_mangle)]
