@@ -9,8 +9,7 @@ use lib.Dec.{leb}
 use lib.ListN.{length, drop, length-drop}
 use Rattle.std.specs.Prelude.{Ok, Err}
 use Rattle.model.specs.declared.elements.Element.{Element}
-use Rattle.model.specs.declared.answers.Reason.{Reason}
-use Rattle.model.specs.declared.answers.Reason.TheVariants.{UnknownKind, RecordCut, TooManyElements, PeriodOutOfRange, OffsetOutOfRange, DeadlineOutOfRange, CostOutOfRange, HyperperiodAboveLimit, KOutOfRange, BufferTooShort}
+use Rattle.model.specs.declared.answers.Reason.TheVariants.{HyperperiodAboveLimit}
 use Rattle.model.specs.declared.answers.Refusal.{Refusal}
 use Rattle.model.specs.declared.answers.Verdict.{Verdict}
 use Rattle.model.specs.Elements.{places, most_h}
@@ -22,7 +21,7 @@ use Rattle.wire.specs.Format.{record_size}
 use Rattle.wire.specs.Reading.{no_bytes, rest_of, check_records, elements_in}
 use Rattle.wire.proofs.ReadingLaws.{rest_element, records_rest, elements_end, elements_next}
 use Rattle.analysis.specs.InBytes.{kind_byte}
-use Rattle.analysis.specs.LegalSets.{answer_of, place_in_bytes, refusal_in_bytes, in_bytes, Placed}
+use Rattle.analysis.specs.LegalSets.{answer_of, in_bytes, Placed}
 
 -- THE KIND BYTE
 pub record Passing (b : List ℕ) (number i : ℕ) (left : List ℕ) : Type 0 where
@@ -83,25 +82,6 @@ module _ (b : List ℕ) (number i : ℕ) (left : List ℕ) (k : Passing b number
   end l = let e : number - i ≡ 0 = omega (arith, k.upto) in sym (k.same ∙ rw e (omega arith))
 
 -- 8 IN BYTES
-stays : (b : List ℕ) (reason : Reason) (place : ℕ) → (reason ≡ HyperperiodAboveLimit → ⊥) → place ≡ place_in_bytes b reason place
-stays b UnknownKind place n = refl
-stays b RecordCut place n = refl
-stays b TooManyElements place n = refl
-stays b PeriodOutOfRange place n = refl
-stays b OffsetOutOfRange place n = refl
-stays b DeadlineOutOfRange place n = refl
-stays b CostOutOfRange place n = refl
-stays b HyperperiodAboveLimit place n = absurd (n refl)
-stays b KOutOfRange place n = refl
-stays b BufferTooShort place n = refl
-
-module _ (b : List ℕ) (r : Refusal) where
-  pub other_stays : (r.reason ≡ HyperperiodAboveLimit → ⊥) → r ≡ refusal_in_bytes b r
-  other_stays n = ap (λ p. record { reason = r.reason; place = p }) (stays b r.reason r.place n)
-
-  pub eight_moves : r.reason ≡ HyperperiodAboveLimit → record { reason = r.reason; place = kind_byte b r.place } ≡ refusal_in_bytes b r
-  eight_moves n = rw n refl
-
 pub first_within : (s : List Element) → first_above s ≤ length s
 unfolding first_above
 first_within s = least_most _ (length s)

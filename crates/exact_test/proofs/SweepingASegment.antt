@@ -180,23 +180,10 @@ module _ {due₀ due marks : List ℕ} {seen base : ℕ} {c₀ c : Compared} {wo
   zero : words ≡ 0 → Zero due
   zero h = nothing_left due v.marked.due_long (rw h at v.covers)
 
-  pub end_marked : words ≡ 0 → Marked due marks 0
-  end_marked h =
-      record {
-        due_long = v.marked.due_long;
-        marks_long = v.marked.marks_long;
-        fits = v.marked.fits;
-        bits = v.marked.bits;
-        words = rw h at v.covers;
-      }
-
   pub end : words ≡ 0 → (Ok c ≡ sweep_of due₀ base c₀) × Zero due
   end h = (sym (v.run.same ∙ sweep_clean due base c (zero h)), zero h)
 
 module _ {due₀ due marks : List ℕ} {seen base : ℕ} {c₀ c : Compared} {words k w : ℕ} (v : Marks due₀ due marks seen base c₀ c words k w) where
-  pub end_word : w ≡ 0 → Words due₀ due marks seen base c₀ c words
-  end_word h = let m = close_word v.word h in record { marked = m.0; covers = m.1; run = v.run }
-
   module _ (p : w ≡ 0 → ⊥) where
     first : IsFirst due (entry_of k w)
     first = mark_first v.word (pos_of_ne-zero p)

@@ -24,5 +24,3 @@ pub mod TakenSetsAreLegal
 pub mod NothingPastTheCount
 pub mod StarredSums
 pub mod AnswerLaws
-pub mod PlaceLaws
-pub mod AddingUp

@@ -3,5 +3,4 @@ pub mod TestLengths
 pub mod Exactness
 pub mod Approximation
 pub mod Growth
-pub mod Places
 pub mod Sizes
