@@ -5,7 +5,6 @@ use mathlib.Core.Bool.{true, false, and-false}
 use mathlib.Core.List.{List}
 use mathlib.Core.Logic.{⊎_elim}
 use native.Mathlib.Omega.{arith}
-use lib.ListN.{length}
 use borrow.Author.Tests.{lt-ltb, le-ltb, le-leb, lt-leb}
 use Rattle.std.specs.Prelude.{Result, Ok, Err}
 use Rattle.model.specs.declared.elements.Element.{Element}
@@ -13,15 +12,13 @@ use Rattle.model.specs.declared.elements.TaskSet.{TaskSet}
 use Rattle.model.specs.declared.answers.Reason.TheVariants.{HyperperiodAboveLimit}
 use Rattle.model.specs.declared.answers.Refusal.{Refusal}
 use Rattle.model.specs.Answers.{Check}
-use Rattle.model.specs.Over.{all_over}
-use Rattle.model.specs.Elements.{places, most_h, is_legal, AllLegal, counted, is_legal_set}
+use Rattle.model.specs.Elements.{most_h, AllLegal, counted, is_legal_set}
 use Rattle.model.specs.Demand.{F, H, D, Q}
 use Rattle.model.specs.ExactTest.{overload}
 use Rattle.model.specs.TurnedAway.{unless, ◌then◌, check_set, first_above, check_h}
 use Rattle.model.proofs.Cases.{test, lt_or_le}
 use Rattle.model.proofs.TurnedAwayLaws.{turned_is_not_fine, set_fine}
 use Rattle.theory.specs.Sizes.{most_length, IsLoad}
-use Rattle.theory.proofs.TakenSetsAreLegal.{fine_is_legal}
 use Rattle.theory.proofs.DemandRepeats.{demand_repeats}
 use Rattle.load.specs.declared.overload.Loaded.{Loaded}
 use Rattle.load.specs.declared.overload.Loaded.TheVariants.{AboveOne, AtMostOne}
@@ -43,13 +40,6 @@ module _ (s : List Element) where
   -- Q
   pub grows_by_load : (first h : ℕ) → AllLegal s → first ≡ F s → h ≡ H s → D s (first + h) ≡ D s first + Q s
   grows_by_load first h legal e g = rw (e, g) (demand_repeats s (F s) legal (omega arith))
-
--- THE ELEMENTS OF A SET that is fine
-pub elements_legal : (t : TaskSet) → check_set t ≡ Ok tt → all_over (counted t) is_legal ≡ true
-elements_legal t fine = (fine_is_legal t fine).0
-
-pub elements_few : (t : TaskSet) → check_set t ≡ Ok tt → length (counted t) ≤ places
-elements_few t fine = (fine_is_legal t fine).1
 
 -- WHICH WAY A SET GOES
 module _ (t : TaskSet) where

@@ -8,7 +8,6 @@ ghost use Rattle.theory.specs.Sizes.{most_length};
 ghost use Rattle.load.specs.Load.{hyperperiod_of};
 ghost use Rattle.load.specs.FunctionContracts.{DemandAtSays};
 
-use model::checks::check_set;
 use model::elements::{MOST_HYPERPERIOD, first_due};
 use model::{Element, LegalSet, Period, Reason, Refusal, TaskSet};
 
@@ -95,26 +94,13 @@ pub(crate) fn demand_in(set: LegalSet, length: u64) -> u64
     set.elements.iter().map(|e| demand_of(*e, length)).sum()
 }
 
-// D of a set that is fine. By value, as `load_of_fine`.
-#[tactic(auto, using(crate::proofs::Rules::of_demand_at))]
-fn demand_of_fine(set: TaskSet, length: u64) -> u64
-    requires fine { check_set set ≡ Ok tt }
-    requires short { length ≤ most_length }
-    ensures { DemandAtSays set length result }
-{
-    let set = LegalSet {
-        elements: set.counted(),
-    };
-    demand_in(set, length)
-}
-
 // D at a length of up to 2^32 ticks, of a set that is legal; 0 of any other, or past that.
 #[tactic(auto, using(crate::proofs::Rules::of_demand_at))]
 pub fn demand_at(set: TaskSet, length: u64) -> u64
     ensures { DemandAtSays set length result }
 {
-    if check_set(set).is_err() || MOST_LENGTH < length {
-        return 0;
+    match LegalSet::of(&set) {
+        Ok(legal) if length <= MOST_LENGTH => demand_in(legal, length),
+        _ => 0,
     }
-    demand_of_fine(set, length)
 }

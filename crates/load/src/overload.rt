@@ -8,7 +8,6 @@ ghost use Rattle.theory.specs.Sizes.{IsLoad};
 ghost use Rattle.load.specs.FunctionContracts.{LoadOfSays};
 
 use crate::demand::{demand_in, hyperperiod, largest_first};
-use model::checks::check_set;
 use model::{LegalSet, Refusal, TaskSet, Verdict};
 
 #[derive(Clone, Copy)]
@@ -76,16 +75,13 @@ impl<'a> Load<'a> {
     }
 }
 
-// 8; or verdict 2; or F, H and Q. The set comes by value: this copy and that of `check_set` then share one place on the stack.
+// A refusal by 3 to 8; or verdict 2; or F, H and Q, with load at most one.
 #[tactic(auto, using(crate::proofs::Rules::of_load_of))]
-fn load_of_fine(set: TaskSet) -> Result<Loaded, Refusal>
-    requires { check_set set ≡ Ok tt }
+pub fn load_of(set: TaskSet) -> Result<Loaded, Refusal>
     ensures { LoadOfSays set result }
 {
-    let set = LegalSet {
-        elements: set.counted(),
-    };
-    let found = Load::new(set, hyperperiod(set)?);
+    let legal = LegalSet::of(&set)?;
+    let found = Load::new(legal, hyperperiod(legal)?);
     if found.hyperperiod < found.load {
         return Ok(Loaded::AboveOne(found.overload()));
     }
@@ -94,13 +90,4 @@ fn load_of_fine(set: TaskSet) -> Result<Loaded, Refusal>
         hyperperiod: found.hyperperiod,
         load: found.load,
     })
-}
-
-// A refusal by 3 to 8; or verdict 2; or F, H and Q, with load at most one.
-#[tactic(auto, using(crate::proofs::Rules::of_load_of))]
-pub fn load_of(set: TaskSet) -> Result<Loaded, Refusal>
-    ensures { LoadOfSays set result }
-{
-    check_set(set)?;
-    load_of_fine(set)
 }

@@ -1,10 +1,11 @@
 -- What holds whenever `check_set` turns to the element at i, from the first to past the last. Assumes nothing.
 use Prim.Native.Nat.{ℕ, suc, ◌+◌, ◌≤◌, ◌<◌}
 use mathlib.Core.Path.{◌≡◌, sym, ap, ◌∙◌}
+use mathlib.Core.Bool.{true}
 use mathlib.Core.List.{List}
 use native.Mathlib.Omega.{arith}
 use native.Mathlib.Numerals.{add-one}
-use lib.ListN.{length, get_or, drop}
+use lib.ListN.{length, length-take, get_or, drop}
 use lib.Dec.{leb}
 use lib.Seq.{drop-length}
 use Rattle.std.specs.Prelude.{Ok, Err}
@@ -12,9 +13,11 @@ use Rattle.model.specs.declared.elements.Element.{Element}
 use Rattle.model.specs.declared.elements.TaskSet.{TaskSet}
 use Rattle.model.specs.declared.answers.Reason.TheVariants.{TooManyElements}
 use Rattle.model.specs.declared.answers.Refusal.{Refusal}
-use Rattle.model.specs.Elements.{places, counted}
+use Rattle.model.specs.Over.{all_over}
+use Rattle.model.specs.Elements.{places, is_legal, counted}
 use Rattle.model.specs.TurnedAway.{unless, ◌then◌, check_element, check_elements, check_set}
-use Rattle.model.proofs.TurnedAwayLaws.{elements_from}
+use Rattle.model.proofs.ElementLaws.{legal_set}
+use Rattle.model.proofs.TurnedAwayLaws.{elements_from, set_fine}
 
 pub record Checking (t : TaskSet) (i : ℕ) : Type 0 where
   pub upto : i ≤ length (counted t)
@@ -45,3 +48,11 @@ module _ (t : TaskSet) (i : ℕ) (k : Checking t i) (xs : List Element) (counts 
 
     pub found : {r : Refusal} → Err r ≡ check_element i (get_or xs i d) → Err r ≡ check_set t
     found g = sym (from_here ∙ rw (sym g))
+
+-- the elements of a set that is fine
+module _ (t : TaskSet) (fine : Ok tt ≡ check_set t) (xs : List Element) (counts : xs ≡ counted t) where
+  pub legal_elements : all_over xs is_legal ≡ true
+  legal_elements = rw counts ((legal_set t).0 ((set_fine t).0 (sym fine))).1
+
+  pub few_elements : length xs ≤ places
+  few_elements = omega (arith, ap length counts, length-take t.count t.table, ((legal_set t).0 ((set_fine t).0 (sym fine))).0)

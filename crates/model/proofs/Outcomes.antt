@@ -2,20 +2,25 @@
 use Prim.Native.Nat.{ℕ, zero, suc}
 use mathlib.Core.List.{List}
 use Rattle.std.specs.Borrow.{Bor}
+use Rattle.std.specs.Prelude.{Result, Ok, Err}
 use mathlib.Core.Path.{◌≡◌, refl, ap, sym, ◌∙◌}
 use Rattle.model.specs.declared.elements.Element.{Element}
 use Rattle.model.specs.declared.elements.TaskSet.{TaskSet}
+use Rattle.model.specs.declared.legal.LegalSet.{LegalSet}
 use Rattle.model.specs.declared.answers.Reason.{Reason}
+use Rattle.model.specs.declared.answers.Refusal.{Refusal}
 use Rattle.model.specs.declared.answers.Verdict.{Verdict}
 use Rattle.model.specs.declared.answers.Verdict.TheVariants.{Passes, Overrun, LoadAboveOne, NotShown}
 use Rattle.model.specs.declared.answers.Values.{Values}
 use Rattle.model.specs.declared.answers.Numbers.{Numbers}
 use Rattle.model.specs.Answers.{Check, Answer, values}
-use Rattle.model.specs.FunctionContracts.{EmptySetSays, FirstDueSays, CheckElementSays, CheckSetSays, CheckKSays, ValuesOfSays, CountedSays, NumberOfSays, NumbersOfSays}
+use Rattle.model.specs.FunctionContracts.{EmptySetSays, FirstDueSays, CheckElementSays, CheckSetSays, CheckKSays, ValuesOfSays, CountedSays, LegalSetSays, NumberOfSays, NumbersOfSays}
 use Rattle.model.specs.Promises.{Promises}
 use Rattle.model.specs.contracts
+use Rattle.model.proofs.TurnedAwayLaws.{turned_is_not_fine}
 use Rattle.model.proofs.elements
 use Rattle.model.proofs.checks
+use Rattle.model.proofs.legal
 use Rattle.model.proofs.answers
 
 -- THE CODE KEEPS THEM: what the checker proved of each function is its contract
@@ -27,6 +32,9 @@ first_due_keeps = record { met = λ M. elements.first_due.Met.met }
 
 pub check_element_keeps : Promises contracts.checks.check_element.ended checks.check_element.Symbol.code checks.check_element.Symbol.name (λ κs given r after. CheckElementSays given.0 given.1.0 r)
 check_element_keeps = record { met = λ M. checks.check_element.Met.met }
+
+pub legal_set_keeps : Promises contracts.legal.LegalSet.of.ended legal.LegalSet.of.Symbol.code legal.LegalSet.of.Symbol.name (λ κs given r after. LegalSetSays given.0.now r)
+legal_set_keeps = record { met = λ M. legal.LegalSet.of.Met.met }
 
 pub check_set_keeps : Promises contracts.checks.check_set.ended checks.check_set.Symbol.code checks.check_set.Symbol.name (λ κs given r after. CheckSetSays given.0 r)
 check_set_keeps = record { met = λ M. checks.check_set.Met.met }
@@ -55,6 +63,17 @@ first_due_is_decided e a b p q = p ∙ sym q
 
 pub element_check_is_decided : (place : ℕ) (e : Element) (a b : Check) → CheckElementSays place e a → CheckElementSays place e b → a ≡ b
 element_check_is_decided place e a b p q = p ∙ sym q
+
+-- what the slice of a legal set holds, or the refusal
+abbrev held : Result LegalSet Refusal → Result (List Element) Refusal
+held (Ok s) = Ok s.elements.now
+held (Err r) = Err r
+
+pub legal_set_is_decided : (t : TaskSet) (a b : Result LegalSet Refusal) → LegalSetSays t a → LegalSetSays t b → held a ≡ held b
+legal_set_is_decided t (Ok x) (Ok y) p q = ap Ok (p.1 ∙ sym q.1)
+legal_set_is_decided t (Ok x) (Err r) p q = absurd (turned_is_not_fine (sym q ∙ p.0))
+legal_set_is_decided t (Err r) (Ok y) p q = absurd (turned_is_not_fine (sym p ∙ q.0))
+legal_set_is_decided t (Err r) (Err v) p q = let same : ◌≡◌ {A = Check} (Err r) (Err v) = sym p ∙ q in ap Err cc
 
 pub set_check_is_decided : (t : TaskSet) (a b : Check) → CheckSetSays t a → CheckSetSays t b → a ≡ b
 set_check_is_decided t a b p q = p ∙ sym q

@@ -1,9 +1,11 @@
 -- The contracts of this crate's public functions: what each says of what it was given and what it returns, r.
-use Rattle.std.specs.Prelude.{ℕ, ◌≡◌, List}
+use Rattle.std.specs.Prelude.{ℕ, ◌≡◌, List, Result, Ok, Err, MatchResult}
 use Rattle.std.specs.Borrow.{Bor}
 use Rattle.model.specs.declared.elements.Element.{Element}
 use Rattle.model.specs.declared.elements.TaskSet.{TaskSet}
+use Rattle.model.specs.declared.legal.LegalSet.{LegalSet}
 use Rattle.model.specs.declared.answers.Reason.{Reason}
+use Rattle.model.specs.declared.answers.Refusal.{Refusal}
 use Rattle.model.specs.declared.answers.Verdict.{Verdict}
 use Rattle.model.specs.declared.answers.Values.{Values}
 use Rattle.model.specs.declared.answers.Numbers.{Numbers}
@@ -24,6 +26,10 @@ CountedSays t r = r.now ≡ counted t
 
 abbrev pub CheckElementSays : ℕ → Element → Check → Type 0
 CheckElementSays place e r = r ≡ check_element place e
+
+-- the elements of a set that is fine, as a slice; or the refusal
+abbrev pub LegalSetSays : TaskSet → Result LegalSet Refusal → Type 0
+LegalSetSays t r = MatchResult r (λ s. (check_set t ≡ Ok tt) × (s.elements.now ≡ counted t)) (λ q. check_set t ≡ Err q)
 
 abbrev pub CheckSetSays : TaskSet → Check → Type 0
 CheckSetSays t r = r ≡ check_set t

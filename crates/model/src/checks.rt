@@ -2,12 +2,13 @@
 ghost use Rattle.std.specs.Prelude.{◌≡◌};
 ghost use Rattle.model.specs.Elements.{within, is_period};
 ghost use Rattle.model.specs.TurnedAway.{unless as the_unless};
-ghost use Rattle.model.specs.FunctionContracts.{CheckElementSays, CheckSetSays, CheckKSays};
+ghost use Rattle.model.specs.FunctionContracts.{CheckElementSays, LegalSetSays, CheckSetSays, CheckKSays};
 
 use crate::answers::{Reason, Refusal};
 use crate::elements::{
     Element, MOST_COST, MOST_DEADLINE, MOST_K, MOST_OFFSET, MOST_PERIOD, PLACES, Period, TaskSet,
 };
+use crate::legal::LegalSet;
 
 #[tactic(auto, unfolding(crate::specs::Elements::within))]
 fn is_within(low: u32, high: u32, x: u32) -> bool
@@ -68,13 +69,23 @@ pub fn check_k(k: u32) -> Result<(), Refusal>
     unless(is_within(1, MOST_K, k), Reason::KOutOfRange, 0)
 }
 
-// 3 at place 128, then 4 to 7 element by element at its table place.
+impl<'a> LegalSet<'a> {
+    // 3 at place 128, then 4 to 7 element by element at its table place.
+    pub fn of(set: &'a TaskSet) -> Result<LegalSet<'a>, Refusal>
+        ensures { LegalSetSays set.now result }
+    {
+        unless(set.count <= PLACES, Reason::TooManyElements, PLACES)?;
+        let elements = set.counted();
+        for (place, e) in elements.iter().enumerate() {
+            check_element(place, *e)?;
+        }
+        Ok(LegalSet { elements })
+    }
+}
+
 pub fn check_set(set: TaskSet) -> Result<(), Refusal>
     ensures { CheckSetSays set result }
 {
-    unless(set.count <= PLACES, Reason::TooManyElements, PLACES)?;
-    for (place, e) in set.counted().iter().enumerate() {
-        check_element(place, *e)?;
-    }
+    LegalSet::of(&set)?;
     Ok(())
 }

@@ -1,7 +1,4 @@
 // Document 01, "Elements": the element, the set in memory, and the limits of its table.
-ghost use Rattle.std.specs.Prelude.{◌≡◌, ◌≤◌, true, length};
-ghost use Rattle.model.specs.Over.{all_over};
-ghost use Rattle.model.specs.Elements.{is_legal, places};
 ghost use Rattle.model.specs.FunctionContracts.{EmptySetSays, CountedSays, FirstDueSays};
 
 pub const MOST_PERIOD: u32 = 16_777_216;
@@ -50,14 +47,6 @@ impl TaskSet {
             &self.table[..self.count]
         }
     }
-}
-
-// The elements of a legal set.
-#[derive(Clone, Copy)]
-pub struct LegalSet<'a> {
-    pub elements: &'a [Element],
-    ghost legal: { all_over elements.now is_legal ≡ true },
-    ghost few: { length elements.now ≤ places },
 }
 
 // What stands past the count: a single event of all zeros. Since it is a constant, a table of it is cleared where it lies.

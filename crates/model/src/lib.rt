@@ -4,6 +4,8 @@
 pub mod answers;
 pub mod checks;
 pub mod elements;
+pub mod legal;
 
 pub use answers::{Numbers, Reason, Refusal, Values, Verdict};
-pub use elements::{Element, LegalSet, Period, TaskSet};
+pub use elements::{Element, Period, TaskSet};
+pub use legal::LegalSet;

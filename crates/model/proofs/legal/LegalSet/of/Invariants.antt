@@ -1,5 +1,5 @@
 use Rattle.model.proofs.CheckingASet.{Checking}
-use Rattle.model.proofs.checks.check_set.Given as goal
+use Rattle.model.proofs.legal.LegalSet.of.Given as goal
 
 abbrev pub invariant-loop-place : goal.invariant-loop-place
-invariant-loop-place l = Checking l.fn.set l.place
+invariant-loop-place l = Checking l.set l.place
