@@ -1,6 +1,5 @@
 // The test lengths below a bound, compared segment by segment.
-ghost use Rattle.std.specs.Prelude.{◌≤◌, ◌≡◌, length, map};
-ghost use Rattle.model.specs.Demand.{f};
+ghost use Rattle.std.specs.Prelude.{◌≤◌, ◌≡◌};
 ghost use Rattle.model.specs.ExactTest.{comparing};
 ghost use Rattle.model.specs.declared.answers.Verdict.TheVariants.{Overrun};
 ghost use Rattle.theory.specs.TestLengths.{lengths_below};
@@ -9,17 +8,8 @@ ghost use Rattle.exact_test.specs.Segments.{verdict_of};
 
 use crate::segments::{Compared, Segment, TICKS, WORDS};
 use model::elements::{PLACES, first_due};
-use model::{Element, LegalSet, Verdict};
-
-// The elements' first dates.
-fn first_dates(elements: &[Element], next: &mut [u64])
-    requires { length next.old ≡ length elements.now }
-    ensures { next.new ≡ map f elements.now }
-{
-    for (i, e) in elements.iter().enumerate() {
-        next[i] = first_due(*e);
-    }
-}
+use model::{LegalSet, Verdict};
+use places::columns::lay;
 
 // The costs due are added up in a segment of lengths, and swept in rising order.
 fn compare_segments(set: LegalSet, bound: u64) -> Result<Compared, Verdict>
@@ -28,7 +18,7 @@ fn compare_segments(set: LegalSet, bound: u64) -> Result<Compared, Verdict>
 {
     let mut dates = [0; PLACES];
     let next = &mut dates[..set.elements.len()];
-    first_dates(set.elements, next);
+    lay(set.elements, next, first_due);
     let mut segment = Segment {
         due: [0; TICKS],
         marks: [0; WORDS],

@@ -4,6 +4,7 @@ use mathlib.Core.List.{List}
 use Rattle.model.specs.declared.elements.Element.{Element}
 use Rattle.model.specs.Promises.{Promises}
 use Rattle.places.specs.declared.columns.Place.{Place}
+use Rattle.places.specs.Columns.{place_of}
 use Rattle.places.specs.FunctionContracts.{PlaceOfSays, LaySays}
 use Rattle.places.specs.contracts
 use Rattle.places.proofs.columns
@@ -12,12 +13,12 @@ use Rattle.places.proofs.columns
 pub place_of_keeps : Promises contracts.columns.place_of.ended columns.place_of.Symbol.code columns.place_of.Symbol.name (λ κs given r after. PlaceOfSays given.0 r)
 place_of_keeps = record { met = λ M. columns.place_of.Met.met }
 
-pub lay_keeps : Promises contracts.columns.lay.ended columns.lay.Symbol.code columns.lay.Symbol.name (λ κs given r after. LaySays given.0.now given.1.0.now after.1.0.now)
-lay_keeps = record { met = λ M. columns.lay.Met.met }
+pub lay_keeps : Promises contracts.columns.lay_places.ended columns.lay_places.Symbol.code columns.lay_places.Symbol.name (λ κs given r after. LaySays place_of given.0.now given.1.0.now after.1.0.now)
+lay_keeps = record { met = λ M. columns.lay_places.Met.met }
 
 -- NO TWO OUTCOMES
 pub place_is_decided : (e : Element) (a b : Place) → PlaceOfSays e a → PlaceOfSays e b → a ≡ b
 place_is_decided e a b p q = p ∙ sym q
 
-pub columns_are_decided : (s : List Element) (rows a b : List Place) → LaySays s rows a → LaySays s rows b → a ≡ b
-columns_are_decided s rows a b p q = p ∙ sym q
+pub columns_are_decided : {R : Type 0} (made : Element → R) (s : List Element) (rows a b : List R) → LaySays made s rows a → LaySays made s rows b → a ≡ b
+columns_are_decided made s rows a b p q = p ∙ sym q

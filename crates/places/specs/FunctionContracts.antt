@@ -7,6 +7,6 @@ use Rattle.places.specs.Columns.{place_of, laid}
 abbrev pub PlaceOfSays : Element → Place → Type 0
 PlaceOfSays e r = r ≡ place_of e
 
--- of the elements and the rows
-abbrev pub LaySays : List Element → List Place → List Place → Type 0
-LaySays s rows rows' = rows' ≡ laid s rows
+-- of how a row is made, the elements, and the rows
+abbrev pub LaySays : {R : Type 0} → (Element → R) → List Element → List R → List R → Type 0
+LaySays made s rows rows' = rows' ≡ laid made s rows

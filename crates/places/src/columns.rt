@@ -1,6 +1,7 @@
 // The dates of each place, as numbers.
 ghost use Rattle.std.specs.Prelude.{◌≡◌};
-ghost use Rattle.places.specs.Columns.{step_of};
+ghost use Rattle.model.specs.declared.elements.Element.{Element};
+ghost use Rattle.places.specs.Columns.{step_of, place_of, OneOf};
 ghost use Rattle.places.specs.FunctionContracts.{PlaceOfSays, LaySays};
 
 use model::elements::first_due;
@@ -41,13 +42,23 @@ pub fn place_of(e: Element) -> Place
     }
 }
 
-// Lays out the elements, as many as there are rows; other rows stay.
+// Lays out the elements, a row for each and as many as there are rows; other rows stay.
 #[tactic(auto, unfolding(crate::specs::Columns::laid))]
-pub fn lay(elements: &[Element], places: &mut [Place])
-    ensures { LaySays elements.now places.old places.new }
+pub fn lay<R: Copy, F: Fn(Element) -> R>(elements: &[Element], rows: &mut [R], row_of: F)
+    ghost made: { Element → R }
+    requires ready { (e : Element) → OneOf elements.now e → F.pre row_of e }
+    requires says { (e : Element) (r : R) → F.post row_of e r → r ≡ made e }
+    ensures { LaySays made elements.now rows.old rows.new }
 {
-    let n = elements.len().min(places.len());
+    let n = elements.len().min(rows.len());
     for (i, e) in elements[..n].iter().enumerate() {
-        places[i] = place_of(*e);
+        rows[i] = row_of(*e);
     }
+}
+
+// The elements' places.
+pub fn lay_places(elements: &[Element], places: &mut [Place])
+    ensures { LaySays place_of elements.now places.old places.new }
+{
+    lay(elements, places, place_of)
 }

@@ -9,7 +9,7 @@ ghost use Rattle.superposition_test.specs.Walk.{row_of, least_next, Movable, Mov
 
 use model::elements::PLACES;
 use model::{Element, LegalSet, Period};
-use places::columns::{NONE_LEFT, Place, place_of};
+use places::columns::{NONE_LEFT, Place, lay, place_of};
 
 // What the walk holds of an element: its place, the last length where its demand is exact, and what it adds to the slope past that.
 #[derive(Clone, Copy)]
@@ -100,10 +100,8 @@ pub(crate) fn walk(set: LegalSet, k: u64, h: u64) -> Result<u64, HeldBack>
     ensures verdict { let s = set.entry.elements.now in told s result ≡ comparing s NotShown (superposition_lengths k s) }
 {
     let mut table = [UNUSED; PLACES];
-    for (i, e) in set.elements.iter().enumerate() {
-        table[i] = row_of(*e, k, h);
-    }
     let rows = &mut table[..set.elements.len()];
+    lay(set.elements, rows, move |e| row_of(e, k, h));
     let mut before: u64 = 0;
     let mut scaled: u64 = 0;
     let mut slope: u64 = 0;

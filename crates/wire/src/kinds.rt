@@ -4,7 +4,7 @@ ghost use Rattle.wire.specs.FunctionContracts.{ByteSays, RecordSizeSays, KindSay
 
 use model::Period;
 
-#[derive(Clone, Copy, PartialEq, Eq)]
+#[derive(Clone, Copy)]
 pub enum Kind {
     Periodic,
     Single,

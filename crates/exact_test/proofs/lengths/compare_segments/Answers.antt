@@ -1,5 +1,7 @@
-use Rattle.std.proofs.Common.{sym, ◌∙◌}
+use Rattle.std.proofs.Common.{rules, sym, ◌∙◌}
 use Rattle.std.proofs.lemmas.Result.{err_from_is_err_and}
+use Rattle.model.specs.Demand.{f}
+use Rattle.places.proofs.ColumnLaws.{laid_all}
 use Rattle.exact_test.proofs.SegmentsMeetDemand.{none_marked}
 use Rattle.exact_test.proofs.DatedPlaces.{dated_first}
 use Rattle.exact_test.proofs.ComparingSegments.{start, end, sweep_fits, swept, next_stage}
@@ -9,7 +11,9 @@ pub invariant_of-segment : goal.invariant_of-segment
 invariant_of-segment c = none_marked
 
 pub loop-base-init : goal.loop-base-init
-loop-base-init c = rw (c.first_dates.ensures, dated_first c.args.set.elements.now) (start c.args.set.legal c.args.set.few c.requires)
+loop-base-init c =
+    let s = c.args.set.elements.now in
+    rw (laid_all f s _ _ c.lay.ensures (search rules), dated_first s) (start c.args.set.legal c.args.set.few c.requires)
 
 pub sweep-requires-clause-sums_fit : goal.sweep-requires-clause-sums_fit
 sweep-requires-clause-sums_fit c = sweep_fits c.loop-base.invariant c.loop-base-test.true c.min-len.ensures c.fill-low.ensures

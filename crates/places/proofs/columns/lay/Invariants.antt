@@ -1,6 +1,5 @@
 use Rattle.std.proofs.Common.{◌≡◌, ◌++◌, map, take, drop}
-use Rattle.places.specs.Columns.{place_of}
 use Rattle.places.proofs.columns.lay.Given as goal
 
 abbrev pub invariant-loop-i : goal.invariant-loop-i
-invariant-loop-i l = l.places ≡ map place_of (take l.i l.e-items) ++ drop l.i l.initial.places
+invariant-loop-i g l = l.rows ≡ map g.made (take l.i l.e-items) ++ drop l.i l.initial.rows

@@ -1,35 +1,14 @@
-use Rattle.std.proofs.Common.{arith, rules, get_or, ◌≡◌, sym, ap, ◌∙◌, true, [], ◌∷◌, ◌++◌, length, take_all}
-use Rattle.std.proofs.lemmas.List.{map_more, take_more_set}
-use Rattle.model.specs.Elements.{filler, is_legal}
-use Rattle.model.proofs.OverLaws.{all_each, each_at}
+use Rattle.std.proofs.Common.{arith, rules}
+use Rattle.places.proofs.ColumnLaws.{laid_all}
 use Rattle.superposition_test.specs.Walk.{row_of}
 use Rattle.superposition_test.proofs.WalkLaws.{Turning, start, none_left, movable, turn, sum_fits, due_fits, top_fits, failing, again}
 use Rattle.superposition_test.proofs.walk.walk.Goals as goal
 use Rattle.superposition_test.proofs.walk.walk.Goals.{After-move_on-moved}
 
-pub row_of-requires-clause-legal : goal.row_of-requires-clause-legal
-row_of-requires-clause-legal c =
-    let s = c.args.set.elements.now in
-    each_at (λ e. is_legal e ≡ true) s c.loop-i.i _ c.loop-i-test.true (all_each s is_legal c.args.set.legal)
-
-pub loop-i-preserved : goal.loop-i-preserved
-loop-i-preserved c =
-    let k = c.loop-i.invariant in
-    record {
-      long = search rules;
-      laid =
-          rw c.row_of.ensures (
-          take_more_set c.loop-i.table c.loop-i.i _ (omega (arith, c.loop-i-test.true, c.args.set.few, k.long))
-          ∙ ap (λ rows. rows ++ row_of c.args.k c.args.h (get_or c.args.set.elements.now c.loop-i.i filler) ∷ []) k.laid
-          ∙ sym (map_more (row_of c.args.k c.args.h) c.args.set.elements.now c.loop-i.i filler c.loop-i-test.true)
-          );
-    }
-
 pub loop-at-init : goal.loop-at-init
 loop-at-init c =
     let s = c.args.set.elements.now in
-    let all : c.loop-i.i ≡ length s = omega (arith, c.loop-i.auto.i-end, c.loop-i-test.false) in
-    start s _ _ c.args.set.legal c.args.set.few c.requires _ _ (rw all at c.loop-i.invariant.laid ∙ rw (take_all (length s) s (omega arith))) c.least-at.ensures
+    start s _ _ c.args.set.legal c.args.set.few c.requires _ _ (laid_all (row_of c.args.k c.args.h) s _ _ c.lay.ensures (search rules)) c.least-at.ensures
 
 pub returns-clause-verdict : goal.returns-clause-verdict
 returns-clause-verdict c = none_left _ _ _ c.loop-at.invariant c.loop-at-test.false
