@@ -9,8 +9,8 @@ use mir.Syntax.{w64}
 use Rattle.std.proofs.lemmas.Nat.Bits.{bit_at_set_same, bit_at_set_other}
 use lib.ListN.{get_or, set, length-set}
 use lib.Seq.{get_or-set_same, get_or-set_other}
-use Rattle.places.specs.Columns.{most_bound}
-use Rattle.places.specs.declared.columns.Place.{Place}
+use Rattle.places.specs.Dates.{most_bound}
+use Rattle.places.specs.declared.dates.Place.{Place}
 use Rattle.exact_test.specs.Segments.{is_date, at_date, ticks, most_next, IsWord, part, Marked, Fit, Added}
 use Rattle.exact_test.proofs.BitLaws.{or_one, sign_some}
 use Rattle.exact_test.proofs.DateLaws.{date_next}

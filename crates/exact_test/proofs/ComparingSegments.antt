@@ -19,8 +19,8 @@ use Rattle.theory.specs.TestLengths.{lengths_below}
 use Rattle.theory.proofs.TestLengthsAre.{test_lengths_are, zero_is_no_test_length}
 use Rattle.theory.proofs.DemandRests.{demand_at_zero, demand_changes_only_at_test_lengths}
 use Rattle.theory.proofs.ExactTestLaws.{upto_zero, upto_gap, comparing_holds}
-use Rattle.places.specs.declared.columns.Place.{Place}
-use Rattle.places.specs.Columns.{most_bound, place_of}
+use Rattle.places.specs.declared.dates.Place.{Place}
+use Rattle.places.specs.Dates.{most_bound, place_of}
 use Rattle.exact_test.specs.declared.segments.Compared.{Compared}
 use Rattle.exact_test.specs.Segments.{ticks, IsWord, place_at, Addable, Full, sweep_of, total, Zero}
 use Rattle.exact_test.proofs.DateLaws.{date_before}

@@ -11,8 +11,8 @@ use Rattle.model.specs.declared.elements.Period.{Period}
 use Rattle.model.specs.declared.elements.Period.TheVariants.{Once, Every}
 use Rattle.model.specs.declared.elements.Element.{Element}
 use Rattle.model.specs.Demand.{f, on_date, is_test_of}
-use Rattle.places.specs.declared.columns.Place.{Place}
-use Rattle.places.specs.Columns.{most_bound, step_of, place_of}
+use Rattle.places.specs.declared.dates.Place.{Place}
+use Rattle.places.specs.Dates.{most_bound, step_of, place_of}
 use Rattle.exact_test.specs.Segments.{is_date, at_date}
 
 module _ (p : Place) where

@@ -7,7 +7,7 @@ use lib.ListN.{length, get_or, set}
 use Rattle.model.specs.declared.elements.Element.{Element}
 use Rattle.model.specs.Elements.{filler}
 use Rattle.model.specs.Demand.{f}
-use Rattle.places.specs.Columns.{place_of}
+use Rattle.places.specs.Dates.{place_of}
 use Rattle.exact_test.specs.Segments.{at_date, place_at, dated}
 
 pub dated_long : (s : List Element) (next : List ℕ) → length (dated s next) ≡ length s

@@ -10,8 +10,8 @@ use borrow.Author.Count.{below_more}
 use Rattle.std.proofs.lemmas.List.{set-get_or}
 use Rattle.model.specs.declared.elements.Element.{Element}
 use Rattle.model.specs.Elements.{most_cost, filler}
-use Rattle.places.specs.declared.columns.Place.{Place}
-use Rattle.places.specs.Columns.{place_of}
+use Rattle.places.specs.declared.dates.Place.{Place}
+use Rattle.places.specs.Dates.{place_of}
 use Rattle.exact_test.specs.Segments.{IsWord, due_of, place_at, at_date, dated, MovedOn, Fit, Added, Addable, Full, Zero}
 use Rattle.exact_test.proofs.DatedPlaces.{dated_long, dated_at, dated_set}
 use Rattle.exact_test.proofs.SegmentLaws.{part_most, part_before, due_none, due_more}

@@ -11,7 +11,7 @@ use Rattle.std.specs.Prelude.{Ok, Err}
 use borrow.Author.Tests.{lt-ltb, le-ltb}
 use Rattle.model.specs.Over.{sum_over}
 use Rattle.model.proofs.OverLaws.{sum_more}
-use Rattle.places.specs.declared.columns.Place.{Place}
+use Rattle.places.specs.declared.dates.Place.{Place}
 use Rattle.exact_test.specs.declared.segments.Compared.{Compared}
 use Rattle.exact_test.specs.Segments.{is_date, part, due_of, place_at, with_due, overrun_at, sweep_of, total, Zero}
 use Rattle.exact_test.proofs.DateLaws.{date_self, date_before}

@@ -19,9 +19,9 @@ use Rattle.model.proofs.Cases.{test}
 use Rattle.model.proofs.OverLaws.{each_at}
 use Rattle.model.proofs.ElementLaws.{Legal, all_legal}
 use Rattle.theory.specs.Growth.{cost_of, due_at}
-use Rattle.places.specs.declared.columns.Place.{Place}
-use Rattle.places.specs.Columns.{most_bound, place_of}
-use Rattle.places.proofs.ColumnLaws.{step_within}
+use Rattle.places.specs.declared.dates.Place.{Place}
+use Rattle.places.specs.Dates.{most_bound, place_of}
+use Rattle.places.proofs.LayingLaws.{step_within}
 use Rattle.exact_test.specs.Segments.{is_date, ticks, due_of, place_at, Marked, Fit, Addable, Full, total, Zero}
 use Rattle.exact_test.proofs.DateLaws.{test_date}
 use Rattle.exact_test.proofs.SegmentLaws.{due_most, total_most}

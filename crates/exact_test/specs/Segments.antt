@@ -6,8 +6,8 @@ use Rattle.model.specs.declared.answers.Verdict.{Verdict}
 use Rattle.model.specs.declared.answers.Verdict.TheVariants.{Passes, Overrun}
 use Rattle.model.specs.Over.{sum_over}
 use Rattle.model.specs.Elements.{most_cost, places}
-use Rattle.places.specs.declared.columns.Place.{Place}
-use Rattle.places.specs.Columns.{most_bound, place_of}
+use Rattle.places.specs.declared.dates.Place.{Place}
+use Rattle.places.specs.Dates.{most_bound, place_of}
 use Rattle.exact_test.specs.declared.segments.Compared.{Compared}
 
 -- a segment has so many lengths at most, an entry for each

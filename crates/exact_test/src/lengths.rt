@@ -3,13 +3,13 @@ ghost use Rattle.std.specs.Prelude.{◌≤◌, ◌≡◌};
 ghost use Rattle.model.specs.ExactTest.{comparing};
 ghost use Rattle.model.specs.declared.answers.Verdict.TheVariants.{Overrun};
 ghost use Rattle.theory.specs.TestLengths.{lengths_below};
-ghost use Rattle.places.specs.Columns.{most_bound};
+ghost use Rattle.places.specs.Dates.{most_bound};
 ghost use Rattle.exact_test.specs.Segments.{verdict_of};
 
 use crate::segments::{Compared, Segment, TICKS, WORDS};
 use model::elements::{PLACES, first_due};
 use model::{LegalSet, Verdict};
-use places::columns::lay;
+use places::dates::lay;
 
 // The costs due are added up in a segment of lengths, and swept in rising order.
 fn compare_segments(set: LegalSet, bound: u64) -> Result<Compared, Verdict>

@@ -1,11 +1,11 @@
 // A segment of lengths: each place adds its cost at its dates, a bitmap of two levels marks them, and the marked lengths are taken in
 // rising order.
 ghost use Rattle.std.specs.Prelude.{◌≡◌, ℕ, ◌+◌, ◌≤◌, IfOk, length, get_or};
-ghost use Rattle.places.specs.Columns.{most_bound};
+ghost use Rattle.places.specs.Dates.{most_bound};
 ghost use Rattle.exact_test.specs.Segments.{ticks, most_next, IsWord, Added, Fit, at_date, dated, Addable, Full, Zero, sweep_of, total};
 
 use model::{Element, Verdict};
-use places::columns::{NONE_LEFT, Place, place_of};
+use places::dates::{NONE_LEFT, Place, place_of};
 use std::marker::Model;
 
 // The ticks of a segment, and the words that have a bit for each.

@@ -1,2 +1,2 @@
-pub mod ColumnLaws
+pub mod LayingLaws
 pub mod Outcomes

@@ -3,18 +3,18 @@ use mathlib.Core.Path.{◌≡◌, sym, ◌∙◌}
 use mathlib.Core.List.{List}
 use Rattle.model.specs.declared.elements.Element.{Element}
 use Rattle.model.specs.Promises.{Promises}
-use Rattle.places.specs.declared.columns.Place.{Place}
-use Rattle.places.specs.Columns.{place_of}
+use Rattle.places.specs.declared.dates.Place.{Place}
+use Rattle.places.specs.Dates.{place_of}
 use Rattle.places.specs.FunctionContracts.{PlaceOfSays, LaySays}
 use Rattle.places.specs.contracts
-use Rattle.places.proofs.columns
+use Rattle.places.proofs.dates
 
 -- THE CODE KEEPS THEM
-pub place_of_keeps : Promises contracts.columns.place_of.ended columns.place_of.Symbol.code columns.place_of.Symbol.name (λ κs given r after. PlaceOfSays given.0 r)
-place_of_keeps = record { met = λ M. columns.place_of.Met.met }
+pub place_of_keeps : Promises contracts.dates.place_of.ended dates.place_of.Symbol.code dates.place_of.Symbol.name (λ κs given r after. PlaceOfSays given.0 r)
+place_of_keeps = record { met = λ M. dates.place_of.Met.met }
 
-pub lay_keeps : Promises contracts.columns.lay_places.ended columns.lay_places.Symbol.code columns.lay_places.Symbol.name (λ κs given r after. LaySays place_of given.0.now given.1.0.now after.1.0.now)
-lay_keeps = record { met = λ M. columns.lay_places.Met.met }
+pub lay_keeps : Promises contracts.dates.lay_places.ended dates.lay_places.Symbol.code dates.lay_places.Symbol.name (λ κs given r after. LaySays place_of given.0.now given.1.0.now after.1.0.now)
+lay_keeps = record { met = λ M. dates.lay_places.Met.met }
 
 -- NO TWO OUTCOMES
 pub place_is_decided : (e : Element) (a b : Place) → PlaceOfSays e a → PlaceOfSays e b → a ≡ b

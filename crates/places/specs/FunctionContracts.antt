@@ -1,8 +1,8 @@
 -- The contracts of this crate's public functions: what each says of what it was given, of what it returns, r, and of the rows after it.
 use Rattle.std.specs.Prelude.{◌≡◌, List}
 use Rattle.model.specs.declared.elements.Element.{Element}
-use Rattle.places.specs.declared.columns.Place.{Place}
-use Rattle.places.specs.Columns.{place_of, laid}
+use Rattle.places.specs.declared.dates.Place.{Place}
+use Rattle.places.specs.Dates.{place_of, laid}
 
 abbrev pub PlaceOfSays : Element → Place → Type 0
 PlaceOfSays e r = r ≡ place_of e

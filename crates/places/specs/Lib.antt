@@ -1,2 +1,2 @@
-pub mod Columns
+pub mod Dates
 pub mod FunctionContracts

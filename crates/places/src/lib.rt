@@ -1,4 +1,4 @@
-// What both tests work with: the places of a set as columns of numbers.
+// What both tests work with: the dates of each place, as numbers.
 #![tactic(auto)]
 
-pub mod columns;
+pub mod dates;

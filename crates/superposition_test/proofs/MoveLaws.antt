@@ -10,7 +10,7 @@ use Rattle.std.specs.List.{sum_by}
 use Rattle.std.proofs.lemmas.List.Sums.{sum_by_more, fold_push}
 use Rattle.model.specs.Elements.{most_cost}
 use Rattle.model.proofs.OverLaws.{each_at}
-use Rattle.places.proofs.ColumnLaws.{laid_more}
+use Rattle.places.proofs.LayingLaws.{laid_more}
 use Rattle.superposition_test.specs.declared.walk.Row.{Row}
 use Rattle.superposition_test.specs.Walk.{none, unused, most_rise, Small, Movable, least_next, moved_on, due_in, rise_in}
 

@@ -18,7 +18,7 @@ use Rattle.model.proofs.ElementLaws.{Runs, Legal}
 use Rattle.theory.specs.TestLengths.{IsDate}
 use Rattle.theory.specs.Growth.{is_visited_by, is_last_by}
 use Rattle.theory.proofs.DemandLaws.{date_from, test_of}
-use Rattle.places.specs.Columns.{step_of}
+use Rattle.places.specs.Dates.{step_of}
 use Rattle.superposition_test.specs.Walk.{none, on_from, rise_from}
 
 module _ (k : ℕ) (e : Element) where

@@ -19,7 +19,7 @@ use Rattle.model.proofs.Cases.{clash, lt_or_le}
 use Rattle.model.proofs.OverLaws.{some_at, at_some, each_at}
 use Rattle.model.proofs.ElementLaws.{Legal}
 use Rattle.theory.specs.Growth.{cost_of, is_visited_by, visited_due_at, is_last_by, rise_of}
-use Rattle.places.specs.Columns.{step_in}
+use Rattle.places.specs.Dates.{step_in}
 use Rattle.superposition_test.specs.declared.walk.Row.{Row}
 use Rattle.superposition_test.specs.Walk.{none, unused, moved_on, due_in, rise_in}
 use Rattle.superposition_test.proofs.LeastLaws.{least_from, Attained, least_below, least_attained}

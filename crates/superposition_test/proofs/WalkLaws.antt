@@ -36,7 +36,7 @@ use Rattle.superposition_test.specs.declared.walk.Row.{Row}
 use Rattle.superposition_test.specs.Walk.{none, Walkable, row_of, least_next, Small, Movable, MovedOn}
 use Rattle.theory.proofs.EverySumFits.{every_sum_fits}
 use Rattle.theory.proofs.ExactTestLaws.{Upto, upto_zero, upto_gap, upto_more, comparing_fails, comparing_holds}
-use Rattle.places.proofs.ColumnLaws.{step_within}
+use Rattle.places.proofs.LayingLaws.{step_within}
 use Rattle.theory.proofs.LoadLaws.{rise_most}
 use Rattle.theory.proofs.SizeLaws.{visited_small}
 use Rattle.superposition_test.proofs.NextLaws.{not_at_zero, next_start}

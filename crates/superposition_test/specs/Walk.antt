@@ -9,7 +9,7 @@ use Rattle.model.specs.Demand.{H, D, Q}
 use Rattle.model.specs.Superposition.{m}
 use Rattle.theory.specs.Growth.{rise_of}
 use Rattle.theory.specs.Sizes.{most_length}
-use Rattle.places.specs.Columns.{most_bound, place_of}
+use Rattle.places.specs.Dates.{most_bound, place_of}
 use Rattle.superposition_test.specs.declared.walk.Row.{Row}
 use Rattle.superposition_test.specs.declared.walk.Moved.{Moved}
 use Rattle.superposition_test.specs.declared.walk.HeldBack.{HeldBack}

@@ -9,7 +9,7 @@ ghost use Rattle.superposition_test.specs.Walk.{row_of, least_next, Movable, Mov
 
 use model::elements::PLACES;
 use model::{Element, LegalSet, Period};
-use places::columns::{NONE_LEFT, Place, lay, place_of};
+use places::dates::{NONE_LEFT, Place, lay, place_of};
 
 // What the walk holds of an element: its place, the last length where its demand is exact, and what it adds to the slope past that.
 #[derive(Clone, Copy)]

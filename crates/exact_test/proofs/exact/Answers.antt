@@ -5,7 +5,7 @@ use Rattle.theory.proofs.SizeLaws.{first_small}
 use Rattle.theory.proofs.TakenSetsAreLegal.{fine_is_legal}
 use Rattle.theory.proofs.AnswerLaws.{exact_refused, exact_overload, exact_compared}
 use Rattle.load.specs.declared.overload.Loaded.TheVariants.{AtMostOne}
-use Rattle.places.specs.Columns.{most_bound}
+use Rattle.places.specs.Dates.{most_bound}
 use Rattle.load.proofs.LoadedLaws.{Goes, load_tells}
 use Rattle.exact_test.proofs.exact.Goals as goal
 use Rattle.exact_test.proofs.exact.Goals.{In-AtMostOne}

@@ -1,7 +1,7 @@
 use Rattle.std.proofs.Common.{rules, sym, ◌∙◌}
 use Rattle.std.proofs.lemmas.Result.{err_from_is_err_and}
 use Rattle.model.specs.Demand.{f}
-use Rattle.places.proofs.ColumnLaws.{laid_all}
+use Rattle.places.proofs.LayingLaws.{laid_all}
 use Rattle.exact_test.proofs.SegmentsMeetDemand.{none_marked}
 use Rattle.exact_test.proofs.DatedPlaces.{dated_first}
 use Rattle.exact_test.proofs.ComparingSegments.{start, end, sweep_fits, swept, next_stage}

@@ -1,6 +1,6 @@
 use Rattle.std.proofs.Common.{arith}
 use Rattle.model.proofs.ElementLaws.{legal_is}
-use Rattle.places.proofs.ColumnLaws.{step_within}
+use Rattle.places.proofs.LayingLaws.{step_within}
 use Rattle.superposition_test.proofs.walk.row_of.Goals as goal
 
 pub nonzero_div-result : goal.nonzero_div-result

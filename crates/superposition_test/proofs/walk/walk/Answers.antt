@@ -1,5 +1,5 @@
 use Rattle.std.proofs.Common.{arith, rules}
-use Rattle.places.proofs.ColumnLaws.{laid_all}
+use Rattle.places.proofs.LayingLaws.{laid_all}
 use Rattle.superposition_test.specs.Walk.{row_of}
 use Rattle.superposition_test.proofs.WalkLaws.{Turning, start, none_left, movable, turn, sum_fits, due_fits, top_fits, failing, again}
 use Rattle.superposition_test.proofs.walk.walk.Goals as goal

@@ -1,7 +1,7 @@
 // The dates of each place, as numbers.
 ghost use Rattle.std.specs.Prelude.{◌≡◌};
 ghost use Rattle.model.specs.declared.elements.Element.{Element};
-ghost use Rattle.places.specs.Columns.{step_of, place_of, OneOf};
+ghost use Rattle.places.specs.Dates.{step_of, place_of, OneOf};
 ghost use Rattle.places.specs.FunctionContracts.{PlaceOfSays, LaySays};
 
 use model::elements::first_due;
@@ -43,7 +43,7 @@ pub fn place_of(e: Element) -> Place
 }
 
 // Lays out the elements, a row for each and as many as there are rows; other rows stay.
-#[tactic(auto, unfolding(crate::specs::Columns::laid))]
+#[tactic(auto, unfolding(crate::specs::Dates::laid))]
 pub fn lay<R: Copy, F: Fn(Element) -> R>(elements: &[Element], rows: &mut [R], row_of: F)
     ghost made: { Element → R }
     requires ready { (e : Element) → OneOf elements.now e → F.pre row_of e }

@@ -5,7 +5,7 @@ use Rattle.model.specs.declared.elements.Period.TheVariants.{Once, Every}
 use Rattle.model.specs.declared.elements.Element.{Element}
 use Rattle.model.specs.Over.{all_over}
 use Rattle.model.specs.Demand.{f}
-use Rattle.places.specs.declared.columns.Place.{Place}
+use Rattle.places.specs.declared.dates.Place.{Place}
 
 -- no bound of the exact test is above this
 abbrev pub most_bound : ℕ

@@ -1,7 +1,7 @@
 use Rattle.std.proofs.Common.{arith}
 use Rattle.std.proofs.lemmas.Grind.{common_steps}
-use Rattle.places.proofs.ColumnLaws.{one_at, laid_more}
-use Rattle.places.proofs.columns.lay.Goals as goal
+use Rattle.places.proofs.LayingLaws.{one_at, laid_more}
+use Rattle.places.proofs.dates.lay.Goals as goal
 
 pub loop-i-preserved : goal.loop-i-preserved
 loop-i-preserved g c =

@@ -1,4 +1,4 @@
--- Laws of specs/Columns: what a row holds, and one row more that `lay` puts. Assumes nothing.
+-- Laws of specs/Dates: what a row holds, and one row more that `lay` puts. Assumes nothing.
 use Prim.Native.Nat.{ℕ, suc, ◌+◌, ◌<◌}
 use mathlib.Core.Path.{◌≡◌, sym, ap, ◌∙◌}
 use mathlib.Core.Bool.{true}
@@ -15,7 +15,7 @@ use Rattle.model.specs.declared.elements.Period.TheVariants.{Once, Every}
 use Rattle.model.specs.declared.elements.Element.{Element}
 use Rattle.model.proofs.OverLaws.{all_each, each_at}
 use Rattle.model.proofs.ElementLaws.{Within, Runs}
-use Rattle.places.specs.Columns.{most_bound, step_of, OneOf, laid}
+use Rattle.places.specs.Dates.{most_bound, step_of, OneOf, laid}
 
 -- WHAT A ROW HOLDS
 pub step_within : (q : Period) → Runs q → Within 1 most_bound (step_of q)
