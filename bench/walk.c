@@ -1,4 +1,4 @@
-/* Superposition: the walk of crates/superposition_test/src/walk.rt. */
+/* Superposition: a walk as that of crates/superposition_test/src/walk.rt, but over columns of numbers and with a look for the least at each step. */
 #include "bench.h"
 
 /* Each place's last length, and what it adds to the slope past it. */
