@@ -1,62 +1,80 @@
-/* Superposition: a walk as that of crates/superposition_test/src/walk.rt, but over columns of numbers and with a look for the least at each step. */
+/* Superposition: the walk of crates/superposition_test/src/walk.rt. */
 #include "bench.h"
 
-/* Each place's last length, and what it adds to the slope past it. */
-struct limits {
-    uint64_t last[PLACES], rise[PLACES];
+/* An element's next length, the step to the one after it, its cost, its last length, and what it adds to the slope past that. */
+struct row {
+    uint64_t next, step, cost, last, rise;
 };
 
-static void lay_limits(const struct task_set *set, uint32_t k, uint64_t h, struct limits *limits)
+/* The cost due at one length, what the slope rises by there, and the least next length after it. */
+struct moved {
+    uint64_t cost, rise, next;
+};
+
+static void lay_rows(const struct task_set *set, uint32_t k, uint64_t h, struct row *rows)
 {
     for (size_t i = 0; i < set->count; i++) {
         const struct element *e = &set->table[i];
-        limits->last[i] = first_of(e);
-        limits->rise[i] = 0;
+        struct row *row = &rows[i];
+        row->next = first_of(e);
+        row->step = e->period;
+        row->cost = e->cost;
+        row->last = row->next;
+        row->rise = 0;
         if (e->period != ONCE) {
-            limits->last[i] += (uint64_t)(k - 1) * e->period;
-            limits->rise[i] = e->cost * (h / e->period);
+            row->last += (uint64_t)(k - 1) * e->period;
+            row->rise = e->cost * (h / e->period);
         }
     }
 }
 
-/* Moves on every place that has this length for its next; returns the cost due there, and adds to the slope. */
-static uint64_t move_on(struct dates *dates, const struct limits *limits, size_t n, uint64_t at, uint64_t *slope)
+/* Moves on every row that has this length for its next. */
+static struct moved move_on(struct row *rows, size_t n, uint64_t at)
 {
-    uint64_t due = 0;
-    uint64_t rise = 0;
-    for (size_t i = 0; i < n; i++) {
-        if (dates->next[i] == at) {
-            due += dates->cost[i];
-            if (at < limits->last[i]) {
-                dates->next[i] = at + dates->step[i];
+    struct moved moved = {0, 0, LARGEST};
+    for (struct row *row = rows; row < rows + n; row++) {
+        if (row->next == at) {
+            moved.cost += row->cost;
+            if (at < row->last) {
+                row->next = at + row->step;
             } else {
-                dates->next[i] = LARGEST;
-                rise += limits->rise[i];
+                row->next = LARGEST;
+                moved.rise += row->rise;
             }
         }
+        if (row->next < moved.next)
+            moved.next = row->next;
     }
-    *slope += rise;
-    return due;
+    return moved;
+}
+
+static uint64_t least_next(const struct row *rows, size_t n)
+{
+    uint64_t best = LARGEST;
+    for (size_t i = 0; i < n; i++) {
+        if (rows[i].next < best)
+            best = rows[i].next;
+    }
+    return best;
 }
 
 static uint32_t compare_lengths(const struct task_set *set, uint32_t k, uint64_t h, uint64_t *answer)
 {
-    struct dates dates;
-    struct limits limits;
+    struct row rows[PLACES];
     uint64_t before = 0, scaled = 0, slope = 0, count = 0;
-    lay_dates(set, &dates);
-    lay_limits(set, k, h, &limits);
-    for (;;) {
-        uint64_t at = least(dates.next, set->count);
-        if (at == LARGEST)
-            return put_verdict(answer, 0, 0, 0, count);
-        scaled += slope * (at - before);
-        scaled += h * move_on(&dates, &limits, set->count, at, &slope);
+    lay_rows(set, k, h, rows);
+    uint64_t at = least_next(rows, set->count);
+    while (at != LARGEST) {
+        struct moved moved = move_on(rows, set->count, at);
+        scaled += slope * (at - before) + moved.cost * h;
         count++;
         if (h * at < scaled)
             return put_verdict(answer, 3, at, demand_at(set, at), count);
+        slope += moved.rise;
         before = at;
+        at = moved.next;
     }
+    return put_verdict(answer, 0, 0, 0, count);
 }
 
 uint32_t c_superposition(const uint8_t *bytes, size_t length, uint32_t k, uint64_t *answer, size_t places)
