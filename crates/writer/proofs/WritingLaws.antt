@@ -1,11 +1,11 @@
 -- Laws of specs/Format and specs/Writing: sizes, the records up to one more, and the outcomes. Assumes nothing.
-use Prim.Native.Nat.{ℕ, suc, ◌+◌, ◌*◌, ◌^◌, ◌≤◌, ◌<◌}
+use Prim.Native.Nat.{ℕ, suc, ◌+◌, ◌-◌, ◌*◌, ◌^◌, ◌≤◌, ◌<◌}
 use mathlib.Core.Path.{◌≡◌, refl, sym, ap, ◌∙◌}
 use mathlib.Core.List.{List, [], ◌∷◌, ◌++◌, append_assoc, append-nil}
 use native.Mathlib.Omega.{arith}
 use native.Mathlib.Numerals.{add-one}
-use lib.ListN.{length, take, drop, get_or, length-append, length-take, take-append-drop}
-use lib.Seq.{take-suc, drop-drop, sets, sets-eq}
+use lib.ListN.{length, take, drop, get_or, length-append, length-take, length-drop, take-append-drop}
+use lib.Seq.{take-suc, drop-drop, take-length, drop-length, take-append_seam, drop-append_seam}
 use borrow.Rule.Slice.PartMut.{put_mid}
 use Rattle.std.specs.List.{sum_by}
 use Rattle.std.proofs.lemmas.List.Sums.{sum_by-cons}
@@ -24,13 +24,6 @@ use Rattle.model.specs.Buffers.{over}
 use Rattle.wire.specs.Format.{number_bytes, byte_of, kind_for, body_size, start_of, record_of, records_of}
 
 -- SIZES
-pub number_length : (x : ℕ) → length (number_bytes x) ≡ 4
-unfolding number_bytes
-number_length x = refl
-
-pub two_length : (a b : ℕ) → length (number_bytes a ++ number_bytes b) ≡ 8
-two_length a b = rw (length-append, number_length a, number_length b)
-
 pub start_length : (q : Period) → (1 ≤ length (start_of q)) × (length (start_of q) ≤ 5)
 unfolding start_of number_bytes
 start_length Once = (omega arith, omega arith)
@@ -68,12 +61,25 @@ pub records_fit : (t : TaskSet) → length t.table ≡ places → sum_by (λ e. 
 records_fit t long =
     omega (arith, records_size (counted t), records_small (counted t), length-take t.count t.table)
 
--- STORES: what a copy to a part of the buffer leaves
-pub put_is_sets : (l : List ℕ) (i k : ℕ) (xs : List ℕ) → length xs ≡ k → i + k ≤ length l → put_mid i k l xs ≡ sets l i xs
-put_is_sets l i k xs h g =
-    ap (λ r. take i l ++ (xs ++ r)) (drop-drop k i l ∙ ap (λ n. drop n l) (omega arith))
-    ∙ sym (append_assoc (take i l) xs (drop (i + length xs) l))
-    ∙ sym (sets-eq xs l i (omega arith))
+-- STORES: bytes at the start of a buffer, and more bytes behind them
+pub over_long : (xs l : List ℕ) → length xs ≤ length l → length (over xs l) ≡ length l
+over_long xs l h = omega (arith, length-append xs (drop (length xs) l), length-drop (length xs) l)
+
+pub over_next : (xs ys l : List ℕ) {i k : ℕ} → i ≡ length xs → k ≡ length ys → put_mid i k (over xs l) ys ≡ over (xs ++ ys) l
+over_next xs ys l h g =
+    rw (h, g, take-append_seam xs (drop (length xs) l), drop-append_seam xs (drop (length xs) l), drop-drop, length-append)
+    (sym (append_assoc xs ys (drop (length xs + length ys) l)))
+
+-- the same where the bytes behind them are put into all that is left
+pub over_rest :
+    (xs ys l : List ℕ) {i : ℕ} →
+    i ≡ length xs →
+    put_mid i (length (over xs l) - i) (over xs l) (over ys (take (length (over xs l) - i) (drop i (over xs l)))) ≡ over (xs ++ ys) l
+over_rest xs ys l h =
+    let r = drop (length xs) l in
+    let left : length (over xs l) - length xs ≡ length r = omega (arith, length-append xs r) in
+    rw (h, left, take-append_seam xs r, drop-append_seam xs r, take-length r, drop-length r, append-nil (ys ++ drop (length ys) r), drop-drop, length-append)
+    (sym (append_assoc xs ys (drop (length xs + length ys) l)))
 
 -- THE RECORDS up to one element more
 records_append : (s t : List Element) → records_of (s ++ t) ≡ records_of s ++ records_of t

@@ -1,15 +1,11 @@
 // Numbers of 32 bits, least significant byte first.
-ghost use Rattle.std.specs.Prelude.{◌≡◌, ◌+◌, ◌≤◌, length};
-ghost use Rattle.std.proofs.lemmas.List.Edits.{sets};
+ghost use Rattle.std.specs.Prelude.{◌≡◌, length};
 ghost use Rattle.wire.specs.Format.{number_bytes};
 
-// The place past the number is handed back.
-pub(crate) fn put_number(out: &mut [u8], at: usize, x: u32) -> usize
-    requires { at + 4 ≤ length out.old }
-    ensures put { out.new ≡ sets out.old at (number_bytes x) }
-    ensures past { result ≡ at + 4 }
+#[tactic(auto, using(wire::proofs::RecordLaws::number_bytes_is))]
+pub(crate) fn put_number(four: &mut [u8], x: u32)
+    requires { length four.old ≡ 4 }
+    ensures { four.new ≡ number_bytes x }
 {
-    let past = at + 4;
-    out[at..past].copy_from_slice(&x.to_le_bytes());
-    past
+    four.copy_from_slice(&x.to_le_bytes());
 }

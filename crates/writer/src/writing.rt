@@ -1,6 +1,6 @@
 // A set written to a lent buffer.
-ghost use Rattle.std.specs.Prelude.{◌≡◌, ◌++◌, ◌+◌, ◌^◌, ◌≤◌, ◌<◌, length, sum_by};
-ghost use Rattle.std.proofs.lemmas.List.Edits.{sets};
+ghost use Rattle.std.specs.Prelude.{◌≡◌, ◌++◌, ◌^◌, ◌≤◌, ◌<◌, length, sum_by};
+ghost use Rattle.model.specs.Buffers.{over};
 ghost use Rattle.wire.specs.Format.{number_bytes, start_of, record_of};
 ghost use Rattle.writer.specs.FunctionContracts.{WriteSetSays};
 
@@ -9,38 +9,45 @@ use model::checks::check_set;
 use model::{Element, Period, Reason, Refusal, TaskSet};
 use wire::Kind;
 
-// The kind, and the period where there is one. Like each of these, it hands back the place past what it puts.
+// The kind, and the period where there is one. What varies in size goes to the start of the lent bytes, and how many it fills is handed back.
 #[tactic(auto, using(crate::proofs::WritingLaws::start_length), unfolding(wire::specs::Format::start_of, wire::specs::Format::number_bytes))]
-fn put_start(out: &mut [u8], at: usize, period: Period) -> usize
-    requires { at + length (start_of period) ≤ length out.old }
-    ensures put { out.new ≡ sets out.old at (start_of period) }
-    ensures past { result ≡ at + length (start_of period) }
+fn put_start(out: &mut [u8], period: Period) -> usize
+    requires { length (start_of period) ≤ length out.old }
+    ensures put { out.new ≡ over (start_of period) out.old }
+    ensures size { result ≡ length (start_of period) }
 {
-    out[at] = Kind::from(period).byte();
+    let (kind, rest) = out.split_at_mut(1);
+    kind[0] = Kind::from(period).byte();
     match period {
-        Period::Once => at + 1,
-        Period::Every(p) => put_number(out, at + 1, p),
+        Period::Once => 1,
+        Period::Every(p) => {
+            put_number(&mut rest[..4], p);
+            5
+        }
     }
 }
 
-fn put_three(out: &mut [u8], at: usize, a: u32, b: u32, c: u32) -> usize
-    requires { at + 12 ≤ length out.old }
-    ensures put { out.new ≡ sets out.old at (number_bytes a ++ number_bytes b ++ number_bytes c) }
-    ensures past { result ≡ at + 12 }
+fn put_three(out: &mut [u8], a: u32, b: u32, c: u32)
+    requires { length out.old ≡ 12 }
+    ensures { out.new ≡ number_bytes a ++ number_bytes b ++ number_bytes c }
 {
-    put_number(out, at, a);
-    put_number(out, at + 4, b);
-    put_number(out, at + 8, c)
+    let (first, others) = out.split_at_mut(4);
+    let (second, third) = others.split_at_mut(4);
+    put_number(first, a);
+    put_number(second, b);
+    put_number(third, c);
 }
 
 #[tactic(auto, using(crate::proofs::WritingLaws::record_length))]
-fn put_record(out: &mut [u8], at: usize, e: Element) -> usize
-    requires { at + length (record_of e) ≤ length out.old }
-    ensures put { out.new ≡ sets out.old at (record_of e) }
-    ensures past { result ≡ at + length (record_of e) }
+fn put_record(out: &mut [u8], e: Element) -> usize
+    requires { length (record_of e) ≤ length out.old }
+    ensures put { out.new ≡ over (record_of e) out.old }
+    ensures size { result ≡ length (record_of e) }
 {
-    let next = put_start(out, at, e.period);
-    put_three(out, next, e.offset, e.deadline, e.cost)
+    let start = put_start(out, e.period);
+    let end = start + 12;
+    put_three(&mut out[start..end], e.offset, e.deadline, e.cost);
+    end
 }
 
 #[tactic(auto, using(crate::proofs::WritingLaws::record_size_is))]
@@ -71,7 +78,7 @@ pub fn write_set(set: TaskSet, out: &mut [u8]) -> Result<usize, Refusal>
     }
     let mut at: usize = 0;
     for e in set.counted() {
-        at = put_record(out, at, *e);
+        at += put_record(&mut out[at..], *e);
     }
     Ok(at)
 }

@@ -1,7 +1,6 @@
-use Rattle.std.proofs.Common.{arith, rules, ◌≡◌, ◌≤◌, length, sym, ap}
+use Rattle.std.proofs.Common.{arith, rules, ◌≡◌, length, sym, ap}
 use Rattle.std.proofs.lemmas.Result.{err_from_is_err_and}
 use Rattle.model.specs.Elements.{places, filler}
-use Rattle.writer.specs.Writing.{bytes_of}
 use Rattle.writer.proofs.WritingLaws.{needed_is, records_fit, write_refused, write_short, write_done}
 use Rattle.writer.proofs.WritingASet.{putting_start, putting_end, putting_fits, putting_next}
 use Rattle.writer.proofs.writing.write_set.Goals as goal
@@ -24,17 +23,15 @@ loop-e-init c = putting_start _ _
 
 pub put_record-at-requires : goal.put_record-at-requires
 put_record-at-requires c =
-    let fits : length (bytes_of c.args.set) ≤ length c.args.out.now = omega (arith, needed_is _ c.counted.ensures c.bytes_needed-needed.ensures) in
-    rw c.counted-e-items.ensures (putting_fits _ _ c.loop-e.invariant filler (rw c.counted-e-items.ensures at c.loop-e-test.true) fits)
+    putting_fits _ _ c.loop-e.invariant c.counted-e-items.ensures filler c.loop-e-test.true
+    (omega (arith, needed_is _ c.counted.ensures c.bytes_needed-needed.ensures))
 
 pub loop-e-preserved : goal.loop-e-preserved
 loop-e-preserved c =
-    putting_next _ _ c.loop-e.invariant filler (rw c.counted-e-items.ensures at c.loop-e-test.true)
-    (rw c.counted-e-items.ensures at c.put_record-at.ensures.put)
-    (rw c.counted-e-items.ensures at c.put_record-at.ensures.past)
+    putting_next _ _ c.loop-e.invariant c.counted-e-items.ensures filler c.loop-e-test.true c.put_record-at.ensures.put c.put_record-at.ensures.size
 
 pub returns : goal.returns
 returns c =
     let needed = needed_is c.args.set c.counted.ensures c.bytes_needed-needed.ensures in
-    let end = putting_end _ _ c.loop-e.invariant (omega (arith, needed)) (omega (arith, ap length c.counted-e-items.ensures)) in
+    let end = putting_end _ _ c.loop-e.invariant (omega (arith, ap length c.counted-e-items.ensures)) in
     write_done _ _ (sym c.in_ok-check_set.ensures) end.0 (omega (arith, needed, end.0)) end.1
