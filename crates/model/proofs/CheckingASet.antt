@@ -1,4 +1,4 @@
--- What holds whenever `check_set` turns to the element at i, from the first to past the last. Assumes nothing.
+-- What holds whenever `LegalSet::of` turns to the element at i, from the first to past the last, and what its end says of the elements. Assumes nothing.
 use Prim.Native.Nat.{ℕ, suc, ◌+◌, ◌≤◌, ◌<◌}
 use mathlib.Core.Path.{◌≡◌, sym, ap, ◌∙◌}
 use mathlib.Core.Bool.{true}

@@ -1,4 +1,4 @@
--- What holds whenever `read_set` turns to the next record, from the first to the end of the bytes. Assumes nothing.
+-- What holds whenever `read_elements` turns to the next record, from the first to the end of the bytes. Assumes nothing.
 use Prim.Native.Nat.{ℕ, suc, ◌+◌, ◌-◌, ◌≤◌, ◌<◌}
 use mathlib.Core.Path.{◌≡◌, refl, ap}
 use mathlib.Core.List.{List, [], ◌∷◌, ◌++◌, append_assoc, append-nil}
