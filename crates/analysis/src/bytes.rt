@@ -1,5 +1,5 @@
 // Document 01's two tests of a set as bytes: the set that is read, with 8 at its kind byte.
-ghost use Rattle.std.specs.Prelude.{◌≤◌, ◌≡◌, ℕ, List, length};
+ghost use Rattle.std.specs.Prelude.{◌≤◌, ◌≡◌, List, length};
 ghost use Rattle.model.specs.declared.elements.Element.{Element};
 ghost use Rattle.model.specs.declared.elements.TaskSet.{TaskSet};
 ghost use Rattle.model.specs.declared.answers.Reason.TheVariants.{HyperperiodAboveLimit};

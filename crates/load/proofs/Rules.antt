@@ -8,7 +8,7 @@ use Rattle.theory.proofs.SizeLaws.{first_small}
 use Rattle.theory.proofs.OverloadLaws.{at_first, at_later}
 use Rattle.load.proofs.FindingH.{start, next, above}
 use Rattle.load.proofs.ListLaws.{period_at}
-use Rattle.load.proofs.LoadedLaws.{grows_by_load, refused_first, refused_by_8, above_one, at_most_one, demand_at_lem, no_demand_refused, no_demand_past}
+use Rattle.load.proofs.LoadedLaws.{hyperperiod_tells, grows_by_load, refused_first, refused_by_8, above_one, at_most_one, demand_at_lem, no_demand_refused, no_demand_past}
 
 pub ruleset of_gcd = (gcd_step, gcd_zero)
 
@@ -20,7 +20,7 @@ pub ruleset of_demand_of = (early, late, period_within, legal_parts)
 
 pub ruleset of_demand_at = (set_fine, demand_at_lem, no_demand_refused, no_demand_past)
 
-pub ruleset of_load = (first_small, grows_by_load)
+pub ruleset of_load = (hyperperiod_tells, first_small, grows_by_load)
 
 pub ruleset of_overload = (first_small, at_first, at_later)
 

@@ -3,7 +3,6 @@ ghost use Rattle.std.specs.Prelude.{◌≤◌, ◌≡◌, true};
 ghost use Rattle.model.specs.Number.{gcd as the_gcd};
 ghost use Rattle.model.specs.Elements.{most_h, is_legal, is_period};
 ghost use Rattle.model.specs.Demand.{F, joined as the_joined, demand_of, D};
-ghost use Rattle.model.specs.TurnedAway.{check_set};
 ghost use Rattle.theory.specs.Sizes.{most_length};
 ghost use Rattle.load.specs.Load.{hyperperiod_of};
 ghost use Rattle.load.specs.FunctionContracts.{DemandAtSays};

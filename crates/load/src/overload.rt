@@ -1,10 +1,8 @@
 // What every analysis starts with: the refusals 3 to 8, verdict 2, or F, H and Q.
-ghost use Rattle.std.specs.Prelude.{◌≤◌, ◌<◌, ◌≡◌};
-ghost use Rattle.model.specs.Elements.{most_h};
-ghost use Rattle.model.specs.Demand.{H};
+ghost use Rattle.std.specs.Prelude.{◌<◌, ◌≡◌, MatchResult};
 ghost use Rattle.model.specs.ExactTest.{overload as the_overload};
-ghost use Rattle.model.specs.TurnedAway.{check_set};
 ghost use Rattle.theory.specs.Sizes.{IsLoad};
+ghost use Rattle.load.specs.Load.{hyperperiod_of};
 ghost use Rattle.load.specs.FunctionContracts.{LoadOfSays};
 
 use crate::demand::{demand_in, hyperperiod, largest_first};
@@ -31,21 +29,20 @@ struct Load<'a> {
 }
 
 impl<'a> Load<'a> {
-    // Q is what demand grows by in a hyperperiod, from F on.
+    // 8, or these numbers. Q is what demand grows by in a hyperperiod, from F on.
     #[tactic(auto, using(crate::proofs::Rules::of_load))]
-    fn new(set: LegalSet<'a>, hyperperiod: u64) -> Load<'a>
-        requires multiple { hyperperiod ≡ H set.elements.now }
-        requires small { hyperperiod ≤ most_h }
-        ensures { result.set ≡ set.entry }
+    fn of(set: LegalSet<'a>) -> Result<Load<'a>, Refusal>
+        ensures { MatchResult result (λ load. load.set ≡ set.entry) (λ r. hyperperiod_of set.entry.elements.now ≡ Err r) }
     {
+        let hyperperiod = hyperperiod(set)?;
         let first = largest_first(set);
         let load = demand_in(set, first + hyperperiod) - demand_in(set, first);
-        Load {
+        Ok(Load {
             set,
             first,
             hyperperiod,
             load,
-        }
+        })
     }
 
     // The first overrun among F, F + H, F + 2H and so on: each brings demand nearer by Q - H.
@@ -81,7 +78,7 @@ pub fn load_of(set: TaskSet) -> Result<Loaded, Refusal>
     ensures { LoadOfSays set result }
 {
     let legal = LegalSet::of(&set)?;
-    let found = Load::new(legal, hyperperiod(legal)?);
+    let found = Load::of(legal)?;
     if found.hyperperiod < found.load {
         return Ok(Loaded::AboveOne(found.overload()));
     }

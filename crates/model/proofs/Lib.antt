@@ -1,7 +1,6 @@
 pub mod Cases
 pub mod NumberLaws
 pub mod OverLaws
-pub mod StoreLaws
 pub mod ElementLaws
 pub mod TurnedAwayLaws
 pub mod RowLaws
