@@ -2,7 +2,7 @@
 #include "bench.h"
 
 /* An element's next length, the step to the one after it, its cost, its last length, and what it adds to the slope past that. */
-struct row {
+struct walker {
     uint64_t next, step, cost, last, rise;
 };
 
@@ -11,61 +11,61 @@ struct moved {
     uint64_t cost, rise, next;
 };
 
-static void lay_rows(const struct task_set *set, uint32_t k, uint64_t h, struct row *rows)
+static void lay_walkers(const struct task_set *set, uint32_t k, uint64_t h, struct walker *walkers)
 {
     for (size_t i = 0; i < set->count; i++) {
         const struct element *e = &set->table[i];
-        struct row *row = &rows[i];
-        row->next = first_of(e);
-        row->step = e->period;
-        row->cost = e->cost;
-        row->last = row->next;
-        row->rise = 0;
+        struct walker *w = &walkers[i];
+        w->next = first_of(e);
+        w->step = e->period;
+        w->cost = e->cost;
+        w->last = w->next;
+        w->rise = 0;
         if (e->period != ONCE) {
-            row->last += (uint64_t)(k - 1) * e->period;
-            row->rise = e->cost * (h / e->period);
+            w->last += (uint64_t)(k - 1) * e->period;
+            w->rise = e->cost * (h / e->period);
         }
     }
 }
 
-/* Moves on every row that has this length for its next. */
-static struct moved move_on(struct row *rows, size_t n, uint64_t at)
+/* Moves on every one that has this length for its next. */
+static struct moved move_on(struct walker *walkers, size_t n, uint64_t at)
 {
     struct moved moved = {0, 0, LARGEST};
-    for (struct row *row = rows; row < rows + n; row++) {
-        if (row->next == at) {
-            moved.cost += row->cost;
-            if (at < row->last) {
-                row->next = at + row->step;
+    for (struct walker *w = walkers; w < walkers + n; w++) {
+        if (w->next == at) {
+            moved.cost += w->cost;
+            if (at < w->last) {
+                w->next = at + w->step;
             } else {
-                row->next = LARGEST;
-                moved.rise += row->rise;
+                w->next = LARGEST;
+                moved.rise += w->rise;
             }
         }
-        if (row->next < moved.next)
-            moved.next = row->next;
+        if (w->next < moved.next)
+            moved.next = w->next;
     }
     return moved;
 }
 
-static uint64_t least_next(const struct row *rows, size_t n)
+static uint64_t least_next(const struct walker *walkers, size_t n)
 {
     uint64_t best = LARGEST;
     for (size_t i = 0; i < n; i++) {
-        if (rows[i].next < best)
-            best = rows[i].next;
+        if (walkers[i].next < best)
+            best = walkers[i].next;
     }
     return best;
 }
 
 static uint32_t compare_lengths(const struct task_set *set, uint32_t k, uint64_t h, uint64_t *answer)
 {
-    struct row rows[PLACES];
+    struct walker walkers[PLACES];
     uint64_t before = 0, scaled = 0, slope = 0, count = 0;
-    lay_rows(set, k, h, rows);
-    uint64_t at = least_next(rows, set->count);
+    lay_walkers(set, k, h, walkers);
+    uint64_t at = least_next(walkers, set->count);
     while (at != LARGEST) {
-        struct moved moved = move_on(rows, set->count, at);
+        struct moved moved = move_on(walkers, set->count, at);
         scaled += slope * (at - before) + moved.cost * h;
         count++;
         if (h * at < scaled)
