@@ -41,8 +41,8 @@ fn in_bytes(bytes: &[u8], r: Refusal) -> Refusal
 {
     match r.reason {
         Reason::HyperperiodAboveLimit => Refusal {
-            reason: r.reason,
             place: kind_byte(bytes, r.place),
+            ..r
         },
         _ => r,
     }

@@ -1,4 +1,4 @@
--- Laws of specs/Calls: six stores, fewer than six places, and what reading and then writing come to. Assumes nothing.
+-- Laws of specs/Calls: fewer than six places, and what reading and then writing come to. Assumes nothing.
 use Prim.Native.Nat.{ℕ, ◌≤◌, ◌<◌}
 use mathlib.Core.Path.{◌≡◌, refl, ◌∙◌}
 use mathlib.Core.List.{List}

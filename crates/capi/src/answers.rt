@@ -19,7 +19,7 @@ pub(crate) fn put_numbers(answer: &mut [u64], n: Numbers) -> u32
         n.demand,
         n.count,
     ];
-    answer[..6].copy_from_slice(&six);
+    answer[..six.len()].copy_from_slice(&six);
     n.refusal
 }
 

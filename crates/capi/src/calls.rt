@@ -6,21 +6,25 @@ ghost use Rattle.capi.specs.FunctionContracts.{ExactCallSays, SuperpositionCallS
 use crate::answers::{put_numbers, rewrite_numbers};
 use analysis::{exact_of_bytes, superposition_of_bytes};
 use model::elements::empty_set;
-use model::{Numbers, Refusal};
+use model::{Numbers, Reason, Refusal};
 use wire::read_into;
 use writer::write_set;
 
 const ANSWER_PLACES: usize = 6;
 
 // What is returned where an answer has fewer: as for a buffer shorter than the written set.
-const TOO_FEW_PLACES: u32 = 10;
+fn too_few_places() -> u32
+    ensures { result ≡ 10 }
+{
+    u32::from(Reason::BufferTooShort)
+}
 
 #[unsafe(no_mangle)]
 pub extern "C" fn simaurkoi_exact(set: &[u8], answer: &mut [u64]) -> u32
     ensures { ExactCallSays set.now answer.old result answer.new }
 {
     if answer.len() < ANSWER_PLACES {
-        return TOO_FEW_PLACES;
+        return too_few_places();
     }
     put_numbers(answer, Numbers::from(exact_of_bytes(set)))
 }
@@ -30,7 +34,7 @@ pub extern "C" fn simaurkoi_superposition(set: &[u8], k: u32, answer: &mut [u64]
     ensures { SuperpositionCallSays set.now k answer.old result answer.new }
 {
     if answer.len() < ANSWER_PLACES {
-        return TOO_FEW_PLACES;
+        return too_few_places();
     }
     put_numbers(answer, Numbers::from(superposition_of_bytes(set, k)))
 }
@@ -50,7 +54,7 @@ pub extern "C" fn simaurkoi_rewrite(set: &[u8], out: &mut [u8], answer: &mut [u6
     ensures { RewriteCallSays set.now out.old answer.old result out.new answer.new }
 {
     if answer.len() < ANSWER_PLACES {
-        return TOO_FEW_PLACES;
+        return too_few_places();
     }
     put_numbers(answer, rewrite_numbers(read_then_write(set, out)))
 }

@@ -1,13 +1,13 @@
 -- Laws of specs/Elements: the allowed values as numbers. Assumes nothing.
-use Prim.Native.Nat.{ℕ, ◌-◌, ◌≤◌, ◌<◌}
+use Prim.Native.Nat.{ℕ, ◌-◌, ◌≤◌}
 use mathlib.Core.Path.{◌≡◌}
 use mathlib.Core.Bool.{true, ◌&&◌}
 use mathlib.Core.List.{List}
 use mathlib.Core.Logic.{◌↔◌}
 use native.Mathlib.Omega.{arith}
 use lib.Dec.{leb}
-use lib.ListN.{length, get_or, replicate}
-use lib.Seq.{get_or-take, length-take-le, take-append_seam}
+use lib.ListN.{length, replicate}
+use lib.Seq.{length-take-le, take-append_seam}
 use borrow.Author.Tests.{leb-true, le-leb}
 use Rattle.model.specs.declared.elements.Period.{Period}
 use Rattle.model.specs.declared.elements.Period.TheVariants.{Once, Every}
@@ -86,6 +86,3 @@ set_counted s = take-append_seam s (replicate (places - length s) filler)
 module _ (t : TaskSet) (long : length t.table ≡ places) (few : t.count ≤ places) where
   pub counted_long : length (counted t) ≡ t.count
   counted_long = length-take-le t.count t.table (omega arith)
-
-  pub counted_at : (d : Element) (i : ℕ) → i < t.count → get_or (counted t) i d ≡ get_or t.table i d
-  counted_at d i h = get_or-take t.count t.table i d h

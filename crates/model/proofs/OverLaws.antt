@@ -97,27 +97,11 @@ module _ {A : Type 0} where
   sum_times [] n g = omega arith
   sum_times (e ∷ s) n g = omega (arith, sum_times s n g)
 
-  -- ONE ELEMENT MORE of a list's first ones, from none on
-  pub sum_none : (s : List A) (g : A → ℕ) → sum_over (take 0 s) g ≡ 0
-  unfolding sum_over
-  sum_none s g = refl
-
-  pub largest_none : (s : List A) (g : A → ℕ) → largest_over (take 0 s) g ≡ 0
-  unfolding largest_over
-  largest_none s g = refl
-
   pub sum_more : (s : List A) (g : A → ℕ) (d : A) (i : ℕ) → i < length s → sum_over (take (suc i) s) g ≡ sum_over (take i s) g + g (get_or s i d)
   unfolding sum_over
   sum_more [] g d i h = absurd (omega arith)
   sum_more (e ∷ s) g d zero h = omega arith
   sum_more (e ∷ s) g d (suc i) h = omega (arith, sum_more s g d i (omega arith))
-
-  pub largest_more :
-      (s : List A) (g : A → ℕ) (d : A) (i : ℕ) → i < length s → largest_over (take (suc i) s) g ≡ max (largest_over (take i s) g) (g (get_or s i d))
-  unfolding largest_over
-  largest_more [] g d i h = absurd (omega arith)
-  largest_more (e ∷ s) g d zero h = omega arith
-  largest_more (e ∷ s) g d (suc i) h = omega (arith, largest_more s g d i (omega arith))
 
   -- the first n, each at most b
   pub sum_most : (s : List A) (g : A → ℕ) (d : A) (b n : ℕ) → ((i : ℕ) → i < n → g (get_or s i d) ≤ b) → sum_over (take n s) g ≤ n * b

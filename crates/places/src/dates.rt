@@ -8,7 +8,7 @@ use model::elements::first_due;
 use model::{Element, Period};
 
 // What a place has for its next length when none is left.
-pub const NONE_LEFT: u64 = 0xffff_ffff_ffff_ffff;
+pub const NONE_LEFT: u64 = u64::MAX;
 
 // No bound of the exact test is above this.
 const MOST_BOUND: u64 = 2_147_483_648;
@@ -56,7 +56,7 @@ pub fn lay<R: Copy, F: Fn(Element) -> R>(elements: &[Element], rows: &mut [R], r
     }
 }
 
-// The elements' places.
+// The elements' places, for any elements and any rows.
 pub fn lay_places(elements: &[Element], places: &mut [Place])
     ensures { LaySays place_of elements.now places.old places.new }
 {

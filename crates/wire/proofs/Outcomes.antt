@@ -47,8 +47,8 @@ pub from_keeps :
 from_keeps = record { met = λ M. kinds.KindFromPeriod.from.Met.met }
 
 pub byte_keeps :
-    Promises contracts.kinds.Kind.byte.ended kinds.Kind.byte.Symbol.code kinds.Kind.byte.Symbol.name (λ κs given r after. ByteSays given.0 r)
-byte_keeps = record { met = λ M. kinds.Kind.byte.Met.met }
+    Promises contracts.kinds.U8FromKind.from.ended kinds.U8FromKind.from.Symbol.code kinds.U8FromKind.from.Symbol.name (λ κs given r after. ByteSays given.0 r)
+byte_keeps = record { met = λ M. kinds.U8FromKind.from.Met.met }
 
 pub record_size_keeps :
     Promises contracts.kinds.Kind.record_size.ended kinds.Kind.record_size.Symbol.code kinds.Kind.record_size.Symbol.name

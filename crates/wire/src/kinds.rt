@@ -26,7 +26,7 @@ impl TryFrom<u8> for Kind {
             2 => Kind::Single,
             _ => Kind::Periodic,
         };
-        if kind.byte() == byte {
+        if u8::from(kind) == byte {
             Ok(kind)
         } else {
             Err(UnknownKind)
@@ -45,16 +45,18 @@ impl From<Period> for Kind {
     }
 }
 
-impl Kind {
-    pub fn byte(self) -> u8
-        ensures { ByteSays self result }
-    {
-        match self {
+impl From<Kind> for u8 {
+    ghost from_gives = { ByteSays };
+
+    fn from(kind: Kind) -> u8 {
+        match kind {
             Kind::Periodic => 1,
             Kind::Single => 2,
         }
     }
+}
 
+impl Kind {
     // How many bytes a record of this kind has, its kind byte among them.
     #[tactic(auto, unfolding(crate::specs::Format::body_size))]
     pub fn record_size(self) -> usize

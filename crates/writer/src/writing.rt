@@ -17,7 +17,7 @@ fn put_start(out: &mut [u8], period: Period) -> usize
     ensures size { result ≡ length (start_of period) }
 {
     let (kind, rest) = out.split_at_mut(1);
-    kind[0] = Kind::from(period).byte();
+    kind[0] = u8::from(Kind::from(period));
     match period {
         Period::Once => 1,
         Period::Every(p) => {

@@ -5,7 +5,7 @@ use Rattle.capi.proofs.calls.simaurkoi_rewrite.Goals as goal
 pub returns-then-answer-lt-ANSWER_PLACES : goal.returns-then-answer-lt-ANSWER_PLACES
 returns-then-answer-lt-ANSWER_PLACES c =
     let few = c.if-answer-lt-ANSWER_PLACES.true in
-    (too_few _ _ (omega (arith, few)), out_kept _ _ _ few)
+    (rw c.too_few_places.ensures (too_few _ _ (omega (arith, few))), out_kept _ _ _ few)
 
 pub returns : goal.returns
 returns c =
