@@ -6,13 +6,12 @@ use mathlib.Core.List.{List}
 use mathlib.Core.Logic.{inr}
 use lib.ListN.{length}
 use Rattle.std.specs.Prelude.{Ok, Err}
-use Rattle.model.specs.declared.answers.Reason.TheVariants.{BufferTooShort}
 use Rattle.model.specs.declared.answers.Refusal.{Refusal}
 use Rattle.wire.specs.Format.{AllBytes}
 use Rattle.wire.specs.Reading.{read_set}
+use Rattle.model.specs.Rows.{IsRefusal}
 use Rattle.model.specs.Buffers.{over}
 use Rattle.writer.specs.Outcomes.{HasNoRoom}
-use Rattle.model.proofs.RowLaws.{refused_for}
 use Rattle.writer.proofs.RoundTrip.{read_has_its_bytes, read_then_write}
 use Rattle.writer.proofs.WriterIsDecided.{set_is_not_written, refused_write_changes_nothing}
 use Rattle.capi.specs.Calls.{rewrite, rewritten}
@@ -35,13 +34,16 @@ module _ (b out : List ℕ) where
       AllBytes b →
       (read_set b).check ≡ Ok tt →
       length out < length b →
-      (rewrite b (length out) ≡ Err (record { reason = BufferTooShort; place = length b })) × (rewritten b out ≡ out)
+      IsRefusal (rewrite b (length out)) 10 (length b) × (rewritten b out ≡ out)
   set_without_room h c short =
       let its = read_has_its_bytes b h c in
       let lacks : HasNoRoom (read_set b).set (length out) 10 (length b) = record { legal = its.0; by = refl; at = ap length (sym its.1); short = short } in
-      let refused = refused_for BufferTooShort ((set_is_not_written (read_set b).set 10 (length b) (length out)).1 (inr lacks)) in
+      let refused = (set_is_not_written (read_set b).set 10 (length b) (length out)).1 (inr lacks) in
       let same = read_fine b out c (refl, refl) in
-      (sym same.0 ∙ refused, sym same.1 ∙ refused_write_changes_nothing (read_set b).set out _ _ (refl, refl) _ refused)
+      (
+        record { reason = refused.reason; numbered = refused.numbered; by = sym same.0 ∙ refused.by },
+        sym same.1 ∙ refused_write_changes_nothing (read_set b).set out _ _ (refl, refl) _ refused.by,
+      )
 
   -- THEOREM: bytes that are no set get the reader's refusal, and nothing is changed
   pub no_set : (r : Refusal) → (read_set b).check ≡ Err r → (rewrite b (length out) ≡ Err r) × (rewritten b out ≡ out)

@@ -1,5 +1,6 @@
 // The test lengths below a bound, compared segment by segment.
 ghost use Rattle.std.specs.Prelude.{◌≤◌, ◌≡◌};
+ghost use Rattle.model.specs.Demand.{f};
 ghost use Rattle.model.specs.ExactTest.{comparing};
 ghost use Rattle.model.specs.declared.answers.Verdict.TheVariants.{Overrun};
 ghost use Rattle.theory.specs.TestLengths.{lengths_below};
@@ -8,8 +9,22 @@ ghost use Rattle.exact_test.specs.Segments.{verdict_of};
 
 use crate::segments::{Compared, Segment, TICKS, WORDS};
 use model::elements::{PLACES, first_due};
-use model::{LegalSet, Verdict};
-use places::dates::lay;
+use model::{Element, LegalSet, Verdict};
+use places::dates::{RowOf, lay};
+
+// The next date of each element at the start: the first.
+#[derive(Clone, Copy)]
+struct FirstDate;
+
+impl RowOf for FirstDate {
+    type Row = u64;
+
+    ghost made = { λ _. f };
+
+    fn row_of(&self, e: Element) -> u64 {
+        first_due(e)
+    }
+}
 
 // The costs due are added up in a segment of lengths, and swept in rising order.
 fn compare_segments(set: LegalSet, bound: u64) -> Result<Compared, Verdict>
@@ -18,7 +33,7 @@ fn compare_segments(set: LegalSet, bound: u64) -> Result<Compared, Verdict>
 {
     let mut dates = [0; PLACES];
     let next = &mut dates[..set.elements.len()];
-    lay(set.elements, next, first_due);
+    lay(set.elements, next, &FirstDate);
     let mut segment = Segment {
         due: [0; TICKS],
         marks: [0; WORDS],

@@ -1,7 +1,7 @@
 // The superposition walk: one row for each element, and the least of their next lengths compared at each step.
 ghost use Rattle.std.specs.Prelude.{◌≡◌, true, ◌≤◌, IfErr};
 ghost use Rattle.model.specs.declared.answers.Verdict.TheVariants.{NotShown};
-ghost use Rattle.model.specs.Elements.{most_h, most_k, is_legal};
+ghost use Rattle.model.specs.Elements.{most_h, most_k};
 ghost use Rattle.model.specs.ExactTest.{comparing};
 ghost use Rattle.model.specs.Superposition.{superposition_lengths};
 ghost use Rattle.theory.specs.Sizes.{most_length};
@@ -9,7 +9,7 @@ ghost use Rattle.superposition_test.specs.Walk.{row_of, least_next, Movable, Mov
 
 use model::elements::PLACES;
 use model::{Element, LegalSet, Period};
-use places::dates::{NONE_LEFT, Place, lay, place_of};
+use places::dates::{NONE_LEFT, Place, RowOf, lay, place_of};
 
 // What the walk holds of an element: its place, the last length where its demand is exact, and what it adds to the slope past that.
 #[derive(Clone, Copy)]
@@ -44,21 +44,31 @@ pub(crate) struct HeldBack {
     pub(crate) count: u64,
 }
 
-fn row_of(e: Element, k: u64, h: u64) -> Row
-    requires legal { is_legal e ≡ true }
-    requires k_fine { (1 ≤ k) × (k ≤ most_k) }
-    requires h_small { h ≤ most_h }
-    ensures { result ≡ row_of k h e }
-{
-    let place = place_of(e);
-    let last = match e.period {
-        Period::Once => place.next,
-        Period::Every(p) => place.next + (k - 1) * u64::from(p),
-    };
-    Row {
-        place,
-        last,
-        rise: place.cost * (h / place.step),
+// The rows of a walk with k test points for each periodic element and this H.
+#[derive(Clone, Copy)]
+struct WalkRows {
+    k: u64,
+    h: u64,
+    ghost k_fine: { (1 ≤ k) × (k ≤ most_k) },
+    ghost h_small: { h ≤ most_h },
+}
+
+impl RowOf for WalkRows {
+    type Row = Row;
+
+    ghost made = { λ of. row_of of.k of.h };
+
+    fn row_of(&self, e: Element) -> Row {
+        let place = place_of(e);
+        let last = match e.period {
+            Period::Once => place.next,
+            Period::Every(p) => place.next + (self.k - 1) * u64::from(p),
+        };
+        Row {
+            place,
+            last,
+            rise: place.cost * self.h.checked_div(place.step).unwrap_or(0),
+        }
     }
 }
 
@@ -101,7 +111,7 @@ pub(crate) fn walk(set: LegalSet, k: u64, h: u64) -> Result<u64, HeldBack>
 {
     let mut table = [UNUSED; PLACES];
     let rows = &mut table[..set.elements.len()];
-    lay(set.elements, rows, move |e| row_of(e, k, h));
+    lay(set.elements, rows, &WalkRows { k, h });
     let mut before: u64 = 0;
     let mut scaled: u64 = 0;
     let mut slope: u64 = 0;

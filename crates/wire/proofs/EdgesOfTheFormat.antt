@@ -11,6 +11,7 @@ use Rattle.model.specs.Sums.{every, once, S7}
 use Rattle.std.specs.Prelude.{Some, None, Ok}
 use Rattle.wire.specs.Format.{number_bytes, number_at, is_kind, body_size, record_size, element_of, start_of, record_of, records_of}
 use Rattle.wire.specs.Reading.{check_record, no_bytes, check_of, read_next, read_record, bytes_taken, rest_of, check_records, elements_in, handed_back, read_set}
+use Rattle.wire.specs.Outcomes.{IsRefusedRead}
 
 -- "Numbers are 32 bits, least significant byte first."
 pub numbers_as_bytes :
@@ -71,11 +72,11 @@ records_in_order = (refl, refl, refl, refl, refl, refl, refl, refl, refl, refl, 
 pub sets_in_order :
     (all (record_of (every 1 0 1 1) ++ (record_of (once 0 1 1) ++ (3 ∷ []))) ≡ refusal 1 30)
     × (all (record_of (once 0 1 1) ++ (record_of (once 0 1 0) ++ (3 ∷ []))) ≡ refusal 7 13)
-    × (read_set (record_of (once 0 1 1) ++ (2 ∷ [])) ≡ handed_back (turned RecordCut 13) empty_set)
+    × IsRefusedRead (record_of (once 0 1 1) ++ (2 ∷ [])) 2 13
     × (all (records_of (replicate 128 (once 0 1 1))) ≡ none)
     × (all (records_of (replicate 129 (once 0 1 1))) ≡ refusal 3 1664)
     × (all (records_of (replicate 128 (once 0 1 1)) ++ record_of (once 0 0 0)) ≡ refusal 3 1664)
     × (all (records_of (replicate 128 (once 0 1 1)) ++ (2 ∷ replicate 11 0)) ≡ refusal 2 1664)
     × (all (records_of (replicate 128 (once 0 1 1)) ++ (0 ∷ [])) ≡ refusal 1 1664)
 unfolding within is_period is_offset is_deadline is_cost unless check_element number_bytes is_kind body_size record_size element_of start_of record_of records_of check_record no_bytes check_records elements_in read_set
-sets_in_order = (refl, refl, refl, refl, refl, refl, refl, refl)
+sets_in_order = (refl, refl, record { reason = RecordCut; numbered = refl; by = refl }, refl, refl, refl, refl, refl)

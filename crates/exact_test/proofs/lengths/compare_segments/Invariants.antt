@@ -1,5 +1,4 @@
 use Rattle.std.proofs.Common.{◌-◌}
-use Rattle.model.specs.Demand.{f}
 use Rattle.exact_test.specs.Segments.{dated}
 use Rattle.exact_test.proofs.ComparingSegments.{Stage}
 use Rattle.exact_test.proofs.lengths.compare_segments.Given as goal
@@ -9,6 +8,3 @@ invariant-loop-base l = Stage l.set.elements.now l.bound (dated l.set.elements.n
 
 abbrev pub decreases-loop-base : goal.decreases-loop-base
 decreases-loop-base l = l.bound - l.base
-
-abbrev pub ghost-lay : goal.ghost-lay
-ghost-lay a = f

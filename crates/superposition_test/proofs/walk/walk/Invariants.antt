@@ -1,11 +1,7 @@
 use Rattle.std.proofs.Common.{◌-◌}
 use Rattle.theory.specs.Approximation.{budget}
-use Rattle.superposition_test.specs.Walk.{row_of}
 use Rattle.superposition_test.proofs.WalkLaws.{Walking}
 use Rattle.superposition_test.proofs.walk.walk.Given as goal
-
-abbrev pub ghost-lay : goal.ghost-lay
-ghost-lay a = row_of a.row_of.0 a.row_of.1
 
 abbrev pub invariant-loop-at : goal.invariant-loop-at
 invariant-loop-at l = Walking l.fn.set.elements.now l.k l.h l.rows l.before l.scaled l.slope l.count l.at
