@@ -26,7 +26,8 @@ impl RowOf for FirstDate {
     }
 }
 
-// The costs due are added up in a segment of lengths, and swept in rising order.
+// The costs due are added up in a segment of lengths, and swept in rising order. By itself, and not put into its callers, it holds in registers what they would keep on the stack.
+#[inline(never)]
 fn compare_segments(set: LegalSet, bound: u64) -> Result<Compared, Verdict>
     requires { bound ≤ most_bound }
     ensures { verdict_of result ≡ comparing set.entry.elements.now Overrun (lengths_below set.entry.elements.now bound) }
