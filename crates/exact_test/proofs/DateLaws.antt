@@ -51,6 +51,17 @@ date_next p I h =
           ]
     ]
 
+-- dates counted from base on
+pub date_shift : (base : ℕ) (p : Place) (y : ℕ) → is_date (at_date p (base + p.next)) (base + y) ≡ is_date p y
+unfolding is_date
+date_shift base p y =
+    elim (dec_lt y p.next) [
+      | yes h ↦ rw (lt-leb (base + p.next) (base + y) (omega arith), lt-leb p.next y h)
+      | no h ↦
+          let e : base + y - (base + p.next) ≡ y - p.next = omega arith in
+          rw (le-leb (base + p.next) (base + y) (omega arith), le-leb p.next y (omega arith), e)
+    ]
+
 -- AN ELEMENT'S DATES
 step_date : (q : Period) (x : ℕ) → x < most_bound → on_date q x ≡ eqb (x % step_of q) 0
 step_date Once x h = let m : x % most_bound ≡ x = mod-eq_of_lt h in rw m

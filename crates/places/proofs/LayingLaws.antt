@@ -1,7 +1,7 @@
 -- Laws of specs/Dates: what a row holds, and one row more that `lay` puts. Assumes nothing.
-use Prim.Native.Nat.{ℕ, suc, ◌+◌, ◌<◌}
-use mathlib.Core.Path.{◌≡◌, sym, ap, ◌∙◌}
-use mathlib.Core.List.{List, ◌∷◌, ◌++◌, map}
+use Prim.Native.Nat.{ℕ, zero, suc, ◌+◌, ◌≤◌, ◌<◌}
+use mathlib.Core.Path.{◌≡◌, refl, sym, ap, ◌∙◌}
+use mathlib.Core.List.{List, [], ◌∷◌, ◌++◌, map}
 use native.Mathlib.Omega.{arith}
 use native.Mathlib.Numerals.{add-one}
 use lib.ListN.{length, length-map, get_or, set, take, drop}
@@ -26,6 +26,30 @@ pub laid_all :
 unfolding laid
 laid_all row s rows rows' e long =
     e ∙ rw (long, take-length s, ← long, drop-length rows) (append-nil (map row s))
+
+-- however many rows there are: those of the elements, the other rows as they were, and as many as before
+module _ {R : Type 0} (row : Element → R) where
+  pub laid_at : (s : List Element) (rows : List R) (i : ℕ) (d : Element) (e : R) → i < length s → i < length rows → get_or (laid row s rows) i e ≡ row (get_or s i d)
+  unfolding laid
+  laid_at [] rows i d e h l = absurd (omega arith)
+  laid_at (x ∷ s) [] i d e h l = absurd (omega arith)
+  laid_at (x ∷ s) (r ∷ rows) zero d e h l = refl
+  laid_at (x ∷ s) (r ∷ rows) (suc i) d e h l = laid_at s rows i d e (omega arith) (omega arith)
+
+  pub laid_rest : (s : List Element) (rows : List R) (i : ℕ) (e : R) → length s ≤ i → get_or (laid row s rows) i e ≡ get_or rows i e
+  unfolding laid
+  laid_rest [] [] i e h = refl
+  laid_rest [] (r ∷ rows) i e h = refl
+  laid_rest (x ∷ s) [] i e h = refl
+  laid_rest (x ∷ s) (r ∷ rows) zero e h = absurd (omega arith)
+  laid_rest (x ∷ s) (r ∷ rows) (suc i) e h = laid_rest s rows i e (omega arith)
+
+  pub laid_long : (s : List Element) (rows : List R) → length (laid row s rows) ≡ length rows
+  unfolding laid
+  laid_long [] [] = refl
+  laid_long [] (r ∷ rows) = refl
+  laid_long (x ∷ s) [] = refl
+  laid_long (x ∷ s) (r ∷ rows) = ap suc (laid_long s rows)
 
 -- LAYING, row by row
 pub laid_more :

@@ -27,6 +27,9 @@ module _ (q : Period) (p : ℕ) (eq : q ≡ Every p) where
   unfolding lcm
   joined_is h = rw eq
 
+  pub joined_fits : (h : ℕ) → is_period q ≡ true → h ≤ most_h → p / gcd p h * h ≤ 18014398509481984
+  joined_fits h l b = mul-le-mul {n₂ = 16777216} {m₂ = 1073741824} (omega (arith, div-le_self p (gcd p h), (period_within l).1)) b
+
 turns_most : (q : Period) (h : ℕ) → turns q h ≤ h
 turns_most Once h = omega arith
 turns_most (Every p) h = div-le_self h p
@@ -45,6 +48,13 @@ module _ (e : Element) (l : Legal e) where
 
   pub demand_of_most : (I : ℕ) → demand_of e I ≤ (I + 1) * most_cost
   demand_of_most I = ⊎_elim (λ h. omega (arith, early e I h)) (λ h. omega (arith, late e I h, demand_most I h)) (lt_or_le I (f e))
+
+module _ (e : Element) (I : ℕ) (h : f e ≤ I) where
+  pub demand_once : e.period ≡ Once → e.cost ≡ demand_of e I
+  demand_once eq = sym (late e I h ∙ ap (λ q. dues q (I - f e) * e.cost) eq ∙ omega arith)
+
+  pub demand_every : (p : ℕ) → e.period ≡ Every p → ((I - f e) / p + 1) * e.cost ≡ dues e.period (I - f e) * e.cost
+  demand_every p eq = sym (ap (λ q. dues q (I - f e) * e.cost) eq)
 
 -- OF A SET, as sums over its elements
 module _ (s : List Element) where

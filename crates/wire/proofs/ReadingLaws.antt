@@ -20,9 +20,9 @@ use Rattle.model.specs.Elements.{places, is_legal, AllLegal, set_of, empty_set}
 use Rattle.model.specs.TurnedAway.{unless}
 use Rattle.model.proofs.Cases.{test, clash}
 use Rattle.model.proofs.TurnedAwayLaws.{then_fine, unless_fine, element_fine}
-use Rattle.std.specs.Prelude.{Some, None, Ok, Err}
+use Rattle.std.specs.Prelude.{Result, Some, None, Ok, Err}
 use Rattle.wire.specs.Format.{byte_of, kind_for, body_size, kind_of, is_kind, record_size, element_of}
-use Rattle.wire.specs.Reading.{Record, check_record, no_bytes, answer_of, read_next, read_record, bytes_taken, rest_of, IsRest, check_records, elements_in, handed_back, read_set}
+use Rattle.wire.specs.Reading.{Record, check_record, no_bytes, answer_of, check_of, read_next, read_record, bytes_taken, rest_of, IsRest, check_records, elements_in, handed_back, read_set}
 use Rattle.wire.proofs.FormatLaws.{some_size, kind_size}
 
 -- NO BYTES, and some
@@ -78,6 +78,11 @@ module _ (room place : ℕ) (s : List ℕ) where
   pub element_answers : IsElement s → 1 ≤ room → read_next room place s ≡ Ok (Some (element_of s))
   unfolding read_next
   element_answers h r = rw (element_bytes s h, record_fine.1 (h, r))
+
+-- an answer that is no refusal
+pub no_refusal : {A : Type 0} (r : Result A Refusal) → ((q : Refusal) → r ≡ Err q → ⊥) → Ok tt ≡ check_of r
+no_refusal (Ok x) o = refl
+no_refusal (Err q) o = absurd (o q refl)
 
 -- THE REST
 module _ (s : List ℕ) where
