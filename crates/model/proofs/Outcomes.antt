@@ -9,12 +9,13 @@ use Rattle.model.specs.declared.elements.TaskSet.{TaskSet}
 use Rattle.model.specs.declared.legal.LegalSet.{LegalSet}
 use Rattle.model.specs.declared.answers.Reason.{Reason}
 use Rattle.model.specs.declared.answers.Refusal.{Refusal}
+use Rattle.model.specs.declared.answers.Told.{Told}
 use Rattle.model.specs.declared.answers.Verdict.{Verdict}
 use Rattle.model.specs.declared.answers.Verdict.TheVariants.{Passes, Overrun, LoadAboveOne, NotShown}
 use Rattle.model.specs.declared.answers.Values.{Values}
 use Rattle.model.specs.declared.answers.Numbers.{Numbers}
 use Rattle.model.specs.Answers.{Check, Answer, values}
-use Rattle.model.specs.FunctionContracts.{EmptySetSays, FirstDueSays, CheckElementSays, CheckSetSays, CheckKSays, ValuesOfSays, CountedSays, LegalSetSays, NumberOfSays, NumbersOfSays}
+use Rattle.model.specs.FunctionContracts.{EmptySetSays, FirstDueSays, CheckElementSays, CheckSetSays, CheckKSays, ValuesOfSays, CountedSays, LegalSetSays, NumberOfSays, ToldSays, NumbersOfSays}
 use Rattle.model.specs.Promises.{Promises}
 use Rattle.model.specs.contracts
 use Rattle.model.proofs.TurnedAwayLaws.{turned_is_not_fine}
@@ -47,6 +48,9 @@ counted_keeps = record { met = λ M. elements.TaskSet.counted.Met.met }
 
 pub number_of_keeps : Promises contracts.answers.U32FromReason.from.ended answers.U32FromReason.from.Symbol.code answers.U32FromReason.from.Symbol.name (λ κs given r after. NumberOfSays given.0 r)
 number_of_keeps = record { met = λ M. answers.U32FromReason.from.Met.met }
+
+pub told_keeps : Promises contracts.answers.ToldFromRefusal.from.ended answers.ToldFromRefusal.from.Symbol.code answers.ToldFromRefusal.from.Symbol.name (λ κs given r after. ToldSays given.0 r)
+told_keeps = record { met = λ M. answers.ToldFromRefusal.from.Met.met }
 
 pub values_of_keeps : Promises contracts.answers.ValuesFromVerdict.from.ended answers.ValuesFromVerdict.from.Symbol.code answers.ValuesFromVerdict.from.Symbol.name (λ κs given r after. ValuesOfSays given.0 r)
 values_of_keeps = record { met = λ M. answers.ValuesFromVerdict.from.Met.met }
@@ -86,6 +90,9 @@ counted_is_decided t a b p q = p ∙ sym q
 
 pub number_is_decided : (reason : Reason) (a b : ℕ) → NumberOfSays reason a → NumberOfSays reason b → a ≡ b
 number_is_decided reason a b p q = p ∙ sym q
+
+pub told_is_decided : (refusal : Refusal) (a b : Told) → ToldSays refusal a → ToldSays refusal b → a ≡ b
+told_is_decided refusal a b p q = p ∙ sym q
 
 pub numbers_are_decided : (answer : Answer) (a b : Numbers) → NumbersOfSays answer a → NumbersOfSays answer b → a ≡ b
 numbers_are_decided answer a b p q = p ∙ sym q

@@ -5,6 +5,7 @@ use Rattle.model.specs.declared.answers.Reason.TheVariants.{UnknownKind, RecordC
 use Rattle.model.specs.declared.answers.Refusal.{Refusal}
 use Rattle.model.specs.declared.answers.Verdict.{Verdict}
 use Rattle.model.specs.declared.answers.Verdict.TheVariants.{Passes, Overrun, LoadAboveOne, NotShown}
+use Rattle.model.specs.declared.answers.Told.{Told}
 use Rattle.model.specs.declared.answers.Values.{Values}
 use Rattle.model.specs.declared.answers.Numbers.{Numbers}
 
@@ -35,14 +36,19 @@ values (Overrun I d n) = record { verdict = 1; interval = I; demand = d; count =
 values (LoadAboveOne I d) = record { verdict = 2; interval = I; demand = d; count = 0 }
 values (NotShown I d n) = record { verdict = 3; interval = I; demand = d; count = n }
 
--- what a check tells: a refusal's number and place, and two zeros where nothing is turned away
-pub record Told : Type 0 where
-  pub refusal : ℕ
-  pub place : ℕ
+-- what a refusal tells: its number and place
+abbrev pub told_of : Refusal → Told
+told_of r = record { refusal = number_of r.reason; place = r.place }
 
+-- what a check tells, two zeros where nothing is turned away
 abbrev pub told : Check → Told
 told (Ok u) = record { refusal = 0; place = 0 }
-told (Err r) = record { refusal = number_of r.reason; place = r.place }
+told (Err r) = told_of r
+
+-- a verdict, or what the refusal tells
+abbrev pub numbered : Answer → Result Verdict Told
+numbered (Ok v) = Ok v
+numbered (Err r) = Err (told_of r)
 
 -- a refusal's number and place with zeros after them, or a verdict's values with zeros before them
 abbrev pub refused : ℕ → ℕ → Numbers

@@ -6,12 +6,13 @@ use Rattle.model.specs.declared.elements.TaskSet.{TaskSet}
 use Rattle.model.specs.declared.legal.LegalSet.{LegalSet}
 use Rattle.model.specs.declared.answers.Reason.{Reason}
 use Rattle.model.specs.declared.answers.Refusal.{Refusal}
+use Rattle.model.specs.declared.answers.Told.{Told}
 use Rattle.model.specs.declared.answers.Verdict.{Verdict}
 use Rattle.model.specs.declared.answers.Values.{Values}
 use Rattle.model.specs.declared.answers.Numbers.{Numbers}
 use Rattle.model.specs.Elements.{empty_set, counted}
 use Rattle.model.specs.Demand.{f}
-use Rattle.model.specs.Answers.{Check, Answer, number_of, values, numbers}
+use Rattle.model.specs.Answers.{Check, Answer, number_of, told_of, values, numbers}
 use Rattle.model.specs.TurnedAway.{check_element, check_set, check_k}
 
 abbrev pub EmptySetSays : TaskSet → Type 0
@@ -42,6 +43,9 @@ ValuesOfSays v r = r ≡ values v
 
 abbrev pub NumberOfSays : Reason → ℕ → Type 0
 NumberOfSays reason r = r ≡ number_of reason
+
+abbrev pub ToldSays : Refusal → Told → Type 0
+ToldSays refusal r = r ≡ told_of refusal
 
 abbrev pub NumbersOfSays : Answer → Numbers → Type 0
 NumbersOfSays a r = r ≡ numbers a

@@ -1,6 +1,6 @@
 // The answer of an analysis, and document 01's numbers for each case. specs/Answers.antt defines them.
 ghost use Rattle.std.specs.Prelude.{◌≡◌};
-ghost use Rattle.model.specs.FunctionContracts.{NumberOfSays, ValuesOfSays, NumbersOfSays};
+ghost use Rattle.model.specs.FunctionContracts.{NumberOfSays, ToldSays, ValuesOfSays, NumbersOfSays};
 
 // Why something is turned away: the rows of document 01's table.
 #[derive(Clone, Copy)]
@@ -21,6 +21,13 @@ pub enum Reason {
 #[derive(Clone, Copy)]
 pub struct Refusal {
     pub reason: Reason,
+    pub place: usize,
+}
+
+// What a refusal tells: its number, and where.
+#[derive(Clone, Copy)]
+pub struct Told {
+    pub refusal: u32,
     pub place: usize,
 }
 
@@ -91,6 +98,18 @@ impl From<Reason> for u32 {
             Reason::HyperperiodAboveLimit => 8,
             Reason::KOutOfRange => 9,
             Reason::BufferTooShort => 10,
+        }
+    }
+}
+
+impl From<Refusal> for Told {
+    ghost from_gives = { ToldSays };
+
+    fn from(r: Refusal) -> Told {
+        let Refusal { reason, place } = r;
+        Told {
+            refusal: u32::from(reason),
+            place,
         }
     }
 }

@@ -6,6 +6,6 @@ pub mod checks;
 pub mod elements;
 pub mod legal;
 
-pub use answers::{Numbers, Reason, Refusal, Values, Verdict};
+pub use answers::{Numbers, Reason, Refusal, Told, Values, Verdict};
 pub use elements::{Element, Period, TaskSet};
 pub use legal::LegalSet;

@@ -2,9 +2,9 @@
 use Prim.Native.Nat.{ℕ}
 use mathlib.Core.Path.{◌≡◌, sym, ◌∙◌}
 use mathlib.Core.List.{List}
-use Rattle.model.specs.Answers.{Answer}
 use Rattle.model.specs.Promises.{Promises}
 use Rattle.printer.specs.declared.answers.Lines.{Lines}
+use Rattle.printer.specs.Answered.{Numbered}
 use Rattle.printer.specs.FunctionContracts.{PutAnswersSays}
 use Rattle.printer.specs.contracts
 use Rattle.printer.proofs.answers
@@ -15,7 +15,7 @@ pub put_answers_keeps :
 put_answers_keeps = record { met = λ M. answers.put_answers.Met.met }
 
 pub answers_are_decided :
-    (a : Lines Answer) (out : List ℕ) (m n : ℕ) (x y : List ℕ) →
+    (a : Lines Numbered) (out : List ℕ) (m n : ℕ) (x y : List ℕ) →
     PutAnswersSays a out m x →
     PutAnswersSays a out n y →
     (m ≡ n) × (x ≡ y)

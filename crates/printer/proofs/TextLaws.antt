@@ -10,11 +10,11 @@ use Rattle.std.specs.Prelude.{codes, Result, Ok, Err}
 use Rattle.std.specs.Fmt.{digits}
 use Rattle.std.proofs.lemmas.Fmt.{length-decimal-le_wide}
 use Rattle.model.specs.Over.{Each}
-use Rattle.model.specs.Answers.{Answer, number_of, values}
-use Rattle.model.specs.declared.answers.Refusal.{Refusal}
+use Rattle.model.specs.Answers.{values}
+use Rattle.model.specs.declared.answers.Told.{Told}
 use Rattle.model.specs.declared.answers.Verdict.{Verdict}
 use Rattle.printer.specs.declared.answers.Lines.{Lines}
-use Rattle.printer.specs.Answered.{lines, first_refusal, shown_of, text_of, printed_of}
+use Rattle.printer.specs.Answered.{Numbered, lines, first_refusal, shown_of, text_of, printed_of}
 use Rattle.printer.specs.Text.{field, newline, line, k_name, verdict_line, refused_line}
 use Rattle.printer.specs.Growing.{Grows}
 
@@ -40,7 +40,7 @@ ends_line name numbers h p e =
 
 -- what is shown, in a text that was empty
 pub shown_grows :
-    (a : Lines Answer) {shown : Result (Lines Verdict) Refusal} {m : ℕ} {s t : List ℕ} →
+    (a : Lines Numbered) {shown : Result (Lines Verdict) Told} {m : ℕ} {s t : List ℕ} →
     shown ≡ shown_of a →
     s ≡ [] →
     m ≤ 356 →
@@ -66,18 +66,18 @@ unfolding line
 line_long name numbers p = simp length-append (omega (arith, fields_long numbers p))
 
 -- the numbers that are printed of an answer
-abbrev pub numbers_in : Answer → List ℕ
-numbers_in (Err r) = number_of r.reason ∷ r.place ∷ []
+abbrev pub numbers_in : Numbered → List ℕ
+numbers_in (Err r) = r.refusal ∷ r.place ∷ []
 numbers_in (Ok v) = let w = values v in w.verdict ∷ w.interval ∷ w.demand ∷ w.count ∷ []
 
-pub refused_long : (r : Refusal) → Short (numbers_in (Err r)) → length (refused_line r) ≤ 50
+pub refused_long : (r : Told) → Short (numbers_in (Err r)) → length (refused_line r) ≤ 50
 refused_long r = line_long (codes "refused") (numbers_in (Err r))
 
 verdict_long : (name : List ℕ) (v : Verdict) → Short (numbers_in (Ok v)) → length (verdict_line name v) ≤ length name + 84 + 1
 verdict_long name v = line_long name (numbers_in (Ok v))
 
 shown_long :
-    (e a b c : Answer) → Short (numbers_in e) → Short (numbers_in a) → Short (numbers_in b) → Short (numbers_in c) →
+    (e a b c : Numbered) → Short (numbers_in e) → Short (numbers_in a) → Short (numbers_in b) → Short (numbers_in c) →
     length (text_of (first_refusal e a b c)) ≤ 356
 unfolding digits lines first_refusal
 shown_long (Err r) a b c p q s t = omega (arith, refused_long r p)
@@ -90,7 +90,7 @@ shown_long (Ok e) (Ok a) (Ok b) (Ok c) p q s t =
 
 -- four lines, of names of 16 bytes
 pub printed_long :
-    (a : Lines Answer) → Short (numbers_in a.exact) → Short (numbers_in a.one) → Short (numbers_in a.two) → Short (numbers_in a.hundred) →
+    (a : Lines Numbered) → Short (numbers_in a.exact) → Short (numbers_in a.one) → Short (numbers_in a.two) → Short (numbers_in a.hundred) →
     length (printed_of a) ≤ 356
 unfolding printed_of
 printed_long a = shown_long a.exact a.one a.two a.hundred

@@ -1,9 +1,9 @@
 -- Document 01, "The verdict printer": the bytes of its lines, in ASCII.
 use Rattle.std.specs.Prelude.{ℕ, List, [], ◌∷◌, ◌++◌, flat_map, codes}
 use Rattle.std.specs.Fmt.{decimal}
-use Rattle.model.specs.declared.answers.Refusal.{Refusal}
+use Rattle.model.specs.declared.answers.Told.{Told}
 use Rattle.model.specs.declared.answers.Verdict.{Verdict}
-use Rattle.model.specs.Answers.{number_of, values}
+use Rattle.model.specs.Answers.{values}
 
 -- a number after a blank
 abbrev pub field : ℕ → List ℕ
@@ -27,5 +27,5 @@ verdict_line name verdict =
     line name (v.verdict ∷ v.interval ∷ v.demand ∷ v.count ∷ [])
 
 -- ""refused", number, place"
-abbrev pub refused_line : Refusal → List ℕ
-refused_line r = line (codes "refused") (number_of r.reason ∷ r.place ∷ [])
+abbrev pub refused_line : Told → List ℕ
+refused_line r = line (codes "refused") (r.refusal ∷ r.place ∷ [])

@@ -6,7 +6,7 @@ ghost use Rattle.printer.specs.FunctionContracts.{PutAnswersSays};
 ghost use Rattle.printer.specs.Text.{verdict_line, refused_line};
 
 use crate::text::{ROOM, Text, push_line};
-use model::{Refusal, Values, Verdict};
+use model::{Told, Values, Verdict};
 
 // What stands for each line: the exact test's, and those of k = 1, 2 and 100.
 #[derive(Clone, Copy)]
@@ -19,7 +19,7 @@ pub struct Lines<T> {
 
 // The first refusal decides.
 #[tactic(auto, unfolding(crate::specs::Answered::first_refusal))]
-fn shown_of(answers: Lines<Result<Verdict, Refusal>>) -> Result<Lines<Verdict>, Refusal>
+fn shown_of(answers: Lines<Result<Verdict, Told>>) -> Result<Lines<Verdict>, Told>
     ensures { result ≡ shown_of answers }
 {
     Ok(Lines {
@@ -30,15 +30,11 @@ fn shown_of(answers: Lines<Result<Verdict, Refusal>>) -> Result<Lines<Verdict>, 
     })
 }
 
-fn push_refusal(text: &mut Text, r: Refusal)
+fn push_refusal(text: &mut Text, r: Told)
     requires { length text.old.bytes + 50 ≤ 512 }
     ensures { Grows 50 (refused_line r) text.old.bytes text.new.bytes }
 {
-    push_line(
-        text,
-        "refused",
-        &[u64::from(u32::from(r.reason)), r.place as u64],
-    );
+    push_line(text, "refused", &[u64::from(r.refusal), r.place as u64]);
 }
 
 fn push_verdict(text: &mut Text, name: &str, verdict: Verdict)
@@ -60,7 +56,7 @@ fn push_verdicts(text: &mut Text, verdicts: Lines<Verdict>)
 }
 
 // Puts the text of the answers of the exact test and of k = 1, 2 and 100 at the start of out, and answers how many bytes that are.
-pub fn put_answers(answers: Lines<Result<Verdict, Refusal>>, out: &mut [u8; ROOM]) -> usize
+pub fn put_answers(answers: Lines<Result<Verdict, Told>>, out: &mut [u8; ROOM]) -> usize
     ensures { PutAnswersSays answers out.old result out.new }
 {
     let mut text = Text::new();
