@@ -39,8 +39,7 @@ module _ (b out : List ℕ) where
       let its = read_has_its_bytes b h c in
       let lacks : HasNoRoom (read_set b).set (length out) 10 (length b) = record { legal = its.0; by = refl; at = ap length (sym its.1); short = short } in
       let refused = (set_is_not_written (read_set b).set 10 (length b) (length out)).1 (inr lacks) in
-      let same = read_fine b out c (refl, refl) in
-      (
+      let same = read_fine b out c (refl, refl) in (
         record { reason = refused.reason; numbered = refused.numbered; by = sym same.0 ∙ refused.by },
         sym same.1 ∙ refused_write_changes_nothing (read_set b).set out _ _ (refl, refl) _ refused.by,
       )

@@ -33,7 +33,15 @@ pub values_at_their_edges :
     × IsRefusal (check_element 9 (once 0 1 16777217)) 7 9
 unfolding within is_period is_offset is_deadline is_cost unless check_element
 values_at_their_edges = (
-  refl, refl, row PeriodOutOfRange, row PeriodOutOfRange, row OffsetOutOfRange, row DeadlineOutOfRange, row DeadlineOutOfRange, row CostOutOfRange, row CostOutOfRange,
+  refl,
+  refl,
+  row PeriodOutOfRange,
+  row PeriodOutOfRange,
+  row OffsetOutOfRange,
+  row DeadlineOutOfRange,
+  row DeadlineOutOfRange,
+  row CostOutOfRange,
+  row CostOutOfRange,
 )
 
 abbrev fillers : ℕ → TaskSet
@@ -54,7 +62,17 @@ pub refusals_in_order :
     × (numbers (superposition_answer 1 (fillers 129)) ≡ refused 3 128)
 unfolding within is_period is_offset is_deadline is_cost unless check_element check_elements check_set check_k analysis superposition_answer
 refusals_in_order = (
-  row PeriodOutOfRange, row OffsetOutOfRange, row DeadlineOutOfRange, row CostOutOfRange, refl, row DeadlineOutOfRange, row TooManyElements, refl, refl, refl, refl,
+  row PeriodOutOfRange,
+  row OffsetOutOfRange,
+  row DeadlineOutOfRange,
+  row CostOutOfRange,
+  refl,
+  row DeadlineOutOfRange,
+  row TooManyElements,
+  refl,
+  refl,
+  refl,
+  refl,
 )
 
 pub k_at_its_edges : IsRefusal (check_k 0) 9 0 × (check_k 1 ≡ Ok tt) × (check_k 255 ≡ Ok tt) × IsRefusal (check_k 256) 9 0

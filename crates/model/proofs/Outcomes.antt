@@ -34,7 +34,7 @@ first_due_keeps = record { met = λ M. elements.first_due.Met.met }
 pub check_element_keeps : Promises contracts.checks.check_element.ended checks.check_element.Symbol.code checks.check_element.Symbol.name (λ κs given r after. CheckElementSays given.0 given.1.0 r)
 check_element_keeps = record { met = λ M. checks.check_element.Met.met }
 
-pub legal_set_keeps : Promises contracts.legal.LegalSet.of.ended legal.LegalSet.of.Symbol.code legal.LegalSet.of.Symbol.name (λ κs given r after. LegalSetSays given.0.now r)
+pub legal_set_keeps : Promises contracts.legal.LegalSet.of.ended legal.LegalSet.of.Symbol.code legal.LegalSet.of.Symbol.name (λ κs given r after. LegalSetSays given.0 r)
 legal_set_keeps = record { met = λ M. legal.LegalSet.of.Met.met }
 
 pub check_set_keeps : Promises contracts.checks.check_set.ended checks.check_set.Symbol.code checks.check_set.Symbol.name (λ κs given r after. CheckSetSays given.0 r)
@@ -43,7 +43,7 @@ check_set_keeps = record { met = λ M. checks.check_set.Met.met }
 pub check_k_keeps : Promises contracts.checks.check_k.ended checks.check_k.Symbol.code checks.check_k.Symbol.name (λ κs given r after. CheckKSays given.0 r)
 check_k_keeps = record { met = λ M. checks.check_k.Met.met }
 
-pub counted_keeps : Promises contracts.elements.TaskSet.counted.ended elements.TaskSet.counted.Symbol.code elements.TaskSet.counted.Symbol.name (λ κs given r after. CountedSays given.0.now r)
+pub counted_keeps : Promises contracts.elements.TaskSet.counted.ended elements.TaskSet.counted.Symbol.code elements.TaskSet.counted.Symbol.name (λ κs given r after. CountedSays given.0 r)
 counted_keeps = record { met = λ M. elements.TaskSet.counted.Met.met }
 
 pub number_of_keeps : Promises contracts.answers.U32FromReason.from.ended answers.U32FromReason.from.Symbol.code answers.U32FromReason.from.Symbol.name (λ κs given r after. NumberOfSays given.0 r)
@@ -58,7 +58,7 @@ values_of_keeps = record { met = λ M. answers.ValuesFromVerdict.from.Met.met }
 pub numbers_of_keeps : Promises contracts.answers.NumbersFromResultVerdictRefusal.from.ended answers.NumbersFromResultVerdictRefusal.from.Symbol.code answers.NumbersFromResultVerdictRefusal.from.Symbol.name (λ κs given r after. NumbersOfSays given.0 r)
 numbers_of_keeps = record { met = λ M. answers.NumbersFromResultVerdictRefusal.from.Met.met }
 
--- NO TWO OUTCOMES; of what is borrowed, no two that hold something else
+-- NO TWO OUTCOMES; of what is borrowed, no two that hold something else or lie somewhere else
 pub empty_set_is_decided : (a b : TaskSet) → EmptySetSays a → EmptySetSays b → a ≡ b
 empty_set_is_decided a b p q = p ∙ sym q
 
@@ -68,13 +68,13 @@ first_due_is_decided e a b p q = p ∙ sym q
 pub element_check_is_decided : (place : ℕ) (e : Element) (a b : Check) → CheckElementSays place e a → CheckElementSays place e b → a ≡ b
 element_check_is_decided place e a b p q = p ∙ sym q
 
--- what the slice of a legal set holds, or the refusal
-abbrev held : Result LegalSet Refusal → Result (List Element) Refusal
-held (Ok s) = Ok s.elements.now
+-- what the slice of a legal set holds and where it lies, or the refusal
+abbrev held : Result LegalSet Refusal → Result (List Element × (ℕ × ℕ)) Refusal
+held (Ok s) = Ok (s.elements.now, s.elements.ref_ptr)
 held (Err r) = Err r
 
-pub legal_set_is_decided : (t : TaskSet) (a b : Result LegalSet Refusal) → LegalSetSays t a → LegalSetSays t b → held a ≡ held b
-legal_set_is_decided t (Ok x) (Ok y) p q = ap Ok (p.1 ∙ sym q.1)
+pub legal_set_is_decided : (t : Bor TaskSet) (a b : Result LegalSet Refusal) → LegalSetSays t a → LegalSetSays t b → held a ≡ held b
+legal_set_is_decided t (Ok x) (Ok y) p q = rw (p.1.holds, p.1.part, q.1.holds, q.1.part) refl
 legal_set_is_decided t (Ok x) (Err r) p q = absurd (turned_is_not_fine (sym q ∙ p.0))
 legal_set_is_decided t (Err r) (Ok y) p q = absurd (turned_is_not_fine (sym p ∙ q.0))
 legal_set_is_decided t (Err r) (Err v) p q = let same : ◌≡◌ {A = Check} (Err r) (Err v) = sym p ∙ q in ap Err cc
@@ -85,8 +85,8 @@ set_check_is_decided t a b p q = p ∙ sym q
 pub k_check_is_decided : (k : ℕ) (a b : Check) → CheckKSays k a → CheckKSays k b → a ≡ b
 k_check_is_decided k a b p q = p ∙ sym q
 
-pub counted_is_decided : (t : TaskSet) (a b : Bor (List Element)) → CountedSays t a → CountedSays t b → a.now ≡ b.now
-counted_is_decided t a b p q = p ∙ sym q
+pub counted_is_decided : (t : Bor TaskSet) (a b : Bor (List Element)) → CountedSays t a → CountedSays t b → (a.now ≡ b.now) × (a.ref_ptr ≡ b.ref_ptr)
+counted_is_decided t a b p q = (p.holds ∙ sym q.holds, p.part ∙ sym q.part)
 
 pub number_is_decided : (reason : Reason) (a b : ℕ) → NumberOfSays reason a → NumberOfSays reason b → a ≡ b
 number_is_decided reason a b p q = p ∙ sym q

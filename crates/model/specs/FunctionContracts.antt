@@ -1,5 +1,5 @@
 -- The contracts of this crate's public functions: what each says of what it was given and what it returns, r.
-use Rattle.std.specs.Prelude.{ℕ, ◌≡◌, List, Result, Ok, Err, MatchResult}
+use Rattle.std.specs.Prelude.{ℕ, ◌+◌, ◌≡◌, List, Result, Ok, Err, MatchResult}
 use Rattle.std.specs.Borrow.{Bor}
 use Rattle.model.specs.declared.elements.Element.{Element}
 use Rattle.model.specs.declared.elements.TaskSet.{TaskSet}
@@ -21,16 +21,21 @@ EmptySetSays r = r ≡ empty_set
 abbrev pub FirstDueSays : Element → ℕ → Type 0
 FirstDueSays e r = r ≡ f e
 
--- of the counted places, as a slice
-abbrev pub CountedSays : TaskSet → Bor (List Element) → Type 0
-CountedSays t r = r.now ≡ counted t
+-- where a set's table begins in it: behind the count, of 8 bytes
+abbrev table_at : ℕ
+table_at = 8
+
+-- of the counted places, as that very part of the set and not a copy: what it holds, and where it lies
+pub record CountedSays (t : Bor TaskSet) (r : Bor (List Element)) : Type 0 where
+  pub holds : r.now ≡ counted t.now
+  pub part : r.ref_ptr ≡ (t.ref_ptr.0, table_at + t.ref_ptr.1)
 
 abbrev pub CheckElementSays : ℕ → Element → Check → Type 0
 CheckElementSays place e r = r ≡ check_element place e
 
 -- the elements of a set that is fine, as a slice; or the refusal
-abbrev pub LegalSetSays : TaskSet → Result LegalSet Refusal → Type 0
-LegalSetSays t r = MatchResult r (λ s. (check_set t ≡ Ok tt) × (s.elements.now ≡ counted t)) (λ q. check_set t ≡ Err q)
+abbrev pub LegalSetSays : Bor TaskSet → Result LegalSet Refusal → Type 0
+LegalSetSays t r = MatchResult r (λ s. (check_set t.now ≡ Ok tt) × CountedSays t s.elements) (λ q. check_set t.now ≡ Err q)
 
 abbrev pub CheckSetSays : TaskSet → Check → Type 0
 CheckSetSays t r = r ≡ check_set t

@@ -72,7 +72,7 @@ pub fn check_k(k: u32) -> Result<(), Refusal>
 impl<'a> LegalSet<'a> {
     // 3 at place 128, then 4 to 7 element by element at its table place.
     pub fn of(set: &'a TaskSet) -> Result<LegalSet<'a>, Refusal>
-        ensures { LegalSetSays set.now result }
+        ensures { LegalSetSays set.entry result }
     {
         unless(set.count <= PLACES, Reason::TooManyElements, PLACES)?;
         let elements = set.counted();

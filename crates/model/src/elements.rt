@@ -39,7 +39,7 @@ pub struct TaskSet {
 impl TaskSet {
     // The counted places, in table order; all of them where the count is above their number.
     pub fn counted(&self) -> &[Element]
-        ensures { CountedSays self.entry.now result }
+        ensures { CountedSays self.entry result }
     {
         if PLACES < self.count {
             &self.table

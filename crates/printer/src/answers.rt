@@ -5,7 +5,8 @@ ghost use Rattle.printer.specs.Growing.{Grows};
 ghost use Rattle.printer.specs.FunctionContracts.{PutAnswersSays};
 ghost use Rattle.printer.specs.Text.{verdict_line, refused_line};
 
-use crate::text::{ROOM, Text, push_line};
+pub use crate::text::ROOM;
+use crate::text::{Text, push_line};
 use model::{Told, Values, Verdict};
 
 // What stands for each line: the exact test's, and those of k = 1, 2 and 100.

@@ -4,5 +4,4 @@
 pub mod answers;
 mod text;
 
-pub use answers::{Lines, put_answers};
-pub use text::ROOM;
+pub use answers::{Lines, ROOM, put_answers};

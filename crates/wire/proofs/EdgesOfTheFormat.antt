@@ -5,9 +5,9 @@ use mathlib.Core.List.{List, [], ◌∷◌, ◌++◌}
 use lib.ListN.{replicate}
 use Rattle.model.specs.declared.answers.Reason.TheVariants.{RecordCut}
 use Rattle.model.specs.declared.answers.Told.{Told}
-use Rattle.model.specs.Elements.{within, is_period, is_offset, is_deadline, is_cost, set_of, empty_set}
+use Rattle.model.specs.Elements.{within, is_period, is_offset, is_deadline, is_cost, set_of}
 use Rattle.model.specs.Answers.{told}
-use Rattle.model.specs.TurnedAway.{turned, unless, check_element}
+use Rattle.model.specs.TurnedAway.{unless, check_element}
 use Rattle.model.specs.Sums.{every, once, S7}
 use Rattle.std.specs.Prelude.{Some, None, Ok}
 use Rattle.wire.specs.Format.{number_bytes, number_at, is_kind, body_size, record_size, element_of, start_of, record_of, records_of}

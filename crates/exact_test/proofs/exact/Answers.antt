@@ -23,10 +23,10 @@ returns-in_err-loaded c =
     rw (p.1, p.2) (exact_refused _ (load_tells _ _ c.in_err-loaded.ensures))
 
 pub invariant_of-legal-clause-legal : goal.invariant_of-legal-clause-legal
-invariant_of-legal-clause-legal c = rw c.counted.ensures (fine_is_legal _ (tells (goal.at.invariant_of-legal-clause-legal c).In-AtMostOne).0).0
+invariant_of-legal-clause-legal c = rw c.counted.ensures.holds (fine_is_legal _ (tells (goal.at.invariant_of-legal-clause-legal c).In-AtMostOne).0).0
 
 pub invariant_of-legal-clause-few : goal.invariant_of-legal-clause-few
-invariant_of-legal-clause-few c = rw c.counted.ensures (fine_is_legal _ (tells (goal.at.invariant_of-legal-clause-few c).In-AtMostOne).0).1
+invariant_of-legal-clause-few c = rw c.counted.ensures.holds (fine_is_legal _ (tells (goal.at.invariant_of-legal-clause-few c).In-AtMostOne).0).1
 
 pub overflow_add-first : goal.overflow_add-first
 overflow_add-first c = omega (arith, bound (goal.at.overflow_add-first c).In-AtMostOne)
@@ -42,4 +42,4 @@ returns-in-AboveOne c =
 pub returns-in-AtMostOne : goal.returns-in-AtMostOne
 returns-in-AtMostOne c =
     let k = tells (goal.at.returns-in-AtMostOne c).In-AtMostOne in
-    rw (c.compare_lengths.ensures, c.counted.ensures) (exact_compared _ k.0 k.4 k.5 _ (omega (arith, k.1, k.2)))
+    rw (c.compare_lengths.ensures, c.counted.ensures.holds) (exact_compared _ k.0 k.4 k.5 _ (omega (arith, k.1, k.2)))

@@ -30,14 +30,14 @@ returns-in_err-loaded c =
 pub invariant_of-legal : goal.invariant_of-legal
 invariant_of-legal c =
     let k = (legal_set _).0 ((set_fine _).0 (tells (goal.at.invariant_of-legal c).In-AtMostOne).0) in
-    record { legal = rw c.counted.ensures k.1; few = rw c.counted.ensures (omega (arith, length-take c.args.set.count c.args.set.table, k.0)) }
+    record { legal = rw c.counted.ensures.holds k.1; few = rw c.counted.ensures.holds (omega (arith, length-take c.args.set.count c.args.set.table, k.0)) }
 
 pub walk-requires : goal.walk-requires
 walk-requires c =
     let at = goal.at.walk-requires c in
     let w = k_fine _ (fine at.In_ok-check_k) in
     let k = tells at.In-AtMostOne in
-    rw (c.counted.ensures, c.from.ensures)
+    rw (c.counted.ensures.holds, c.from.ensures)
     (record { low = w.0; high = w.1; hyperperiod = k.2; small = omega (arith, k.2, k.4); load = omega (arith, k.2, k.5) })
 
 pub returns-in-AboveOne : goal.returns-in-AboveOne
@@ -49,7 +49,7 @@ pub returns-in-Ok : goal.returns-in-Ok
 returns-in-Ok c =
     let at = goal.at.returns-in-Ok c in
     let k = tells at.In-AtMostOne in
-    let v = rw (c.in-Ok.is, c.counted.ensures, c.from.ensures) at c.walk.ensures.verdict in
+    let v = rw (c.in-Ok.is, c.counted.ensures.holds, c.from.ensures) at c.walk.ensures.verdict in
     rw v (superposition_compared _ _ (fine at.In_ok-check_k) k.0 k.4 k.5)
 
 pub returns-in-Err : goal.returns-in-Err
@@ -57,6 +57,6 @@ returns-in-Err c =
     let at = goal.at.returns-in-Err c in
     let k = tells at.In-AtMostOne in
     let l = (set_fine _).0 k.0 in
-    let v = rw (c.in-Err.is, c.counted.ensures, c.from.ensures) at c.walk.ensures.verdict in
+    let v = rw (c.in-Err.is, c.counted.ensures.holds, c.from.ensures) at c.walk.ensures.verdict in
     let n = rw c.in-Err.is at c.walk.ensures.short in
     rw (c.demand_at.ensures ∙ sym (demand_at_lem _ _ l n), v) (superposition_compared _ _ (fine at.In_ok-check_k) k.0 k.4 k.5)

@@ -8,7 +8,7 @@ use Rattle.writer.proofs.writing.write_set.Goals as goal
 pub bytes_needed-needed-requires : goal.bytes_needed-needed-requires
 bytes_needed-needed-requires c =
     let long : length c.args.set.table ≡ places = search rules in
-    rw c.counted.ensures (records_fit c.args.set long)
+    rw c.counted.ensures.holds (records_fit c.args.set long)
 
 pub returns-in_err-check_set : goal.returns-in_err-check_set
 returns-in_err-check_set c =
@@ -16,22 +16,22 @@ returns-in_err-check_set c =
     rw (p.1, p.2) (write_refused _ _ (sym c.in_err-check_set.ensures))
 
 pub returns-then-out-needed : goal.returns-then-out-needed
-returns-then-out-needed c = write_short _ _ (sym c.in_ok-check_set.ensures) (needed_is _ c.counted.ensures c.bytes_needed-needed.ensures) c.if-out-needed.true
+returns-then-out-needed c = write_short _ _ (sym c.in_ok-check_set.ensures) (needed_is _ c.counted.ensures.holds c.bytes_needed-needed.ensures) c.if-out-needed.true
 
 pub loop-e-init : goal.loop-e-init
 loop-e-init c = putting_start _ _
 
 pub put_record-at-requires : goal.put_record-at-requires
 put_record-at-requires c =
-    putting_fits _ _ c.loop-e.invariant c.counted-e-items.ensures filler c.loop-e-test.true
-    (omega (arith, needed_is _ c.counted.ensures c.bytes_needed-needed.ensures))
+    putting_fits _ _ c.loop-e.invariant c.counted-e-items.ensures.holds filler c.loop-e-test.true
+    (omega (arith, needed_is _ c.counted.ensures.holds c.bytes_needed-needed.ensures))
 
 pub loop-e-preserved : goal.loop-e-preserved
 loop-e-preserved c =
-    putting_next _ _ c.loop-e.invariant c.counted-e-items.ensures filler c.loop-e-test.true c.put_record-at.ensures.put c.put_record-at.ensures.size
+    putting_next _ _ c.loop-e.invariant c.counted-e-items.ensures.holds filler c.loop-e-test.true c.put_record-at.ensures.put c.put_record-at.ensures.size
 
 pub returns : goal.returns
 returns c =
-    let needed = needed_is c.args.set c.counted.ensures c.bytes_needed-needed.ensures in
-    let end = putting_end _ _ c.loop-e.invariant (omega (arith, ap length c.counted-e-items.ensures)) in
+    let needed = needed_is c.args.set c.counted.ensures.holds c.bytes_needed-needed.ensures in
+    let end = putting_end _ _ c.loop-e.invariant (omega (arith, ap length c.counted-e-items.ensures.holds)) in
     write_done _ _ (sym c.in_ok-check_set.ensures) end.0 (omega (arith, needed, end.0)) end.1

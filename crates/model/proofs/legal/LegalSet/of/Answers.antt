@@ -15,15 +15,15 @@ loop-place-init c = start _ (sym c.in_ok-unless.ensures)
 pub returns-in_err-check_element : goal.returns-in_err-check_element
 returns-in_err-check_element c =
     let p = err_from_is_err_and c.from_residual-in_err-check_element.result c.from_residual-in_err-check_element.ensures.1 in
-    rw (p.1, p.2) (sym (found _ _ c.loop-place.invariant _ c.counted-elements.ensures filler c.loop-place-test.true c.in_err-check_element.ensures))
+    rw (p.1, p.2) (sym (found _ _ c.loop-place.invariant _ c.counted-elements.ensures.holds filler c.loop-place-test.true c.in_err-check_element.ensures))
 
 pub loop-place-preserved : goal.loop-place-preserved
-loop-place-preserved c = next _ _ c.loop-place.invariant _ c.counted-elements.ensures filler c.loop-place-test.true c.in_ok-check_element.ensures
+loop-place-preserved c = next _ _ c.loop-place.invariant _ c.counted-elements.ensures.holds filler c.loop-place-test.true c.in_ok-check_element.ensures
 
 pub invariant_of-result : goal.invariant_of-result
 invariant_of-result c =
-    let fine = end _ _ c.loop-place.invariant _ c.counted-elements.ensures c.loop-place-test.false in
-    record { legal = legal_elements _ fine _ c.counted-elements.ensures; few = few_elements _ fine _ c.counted-elements.ensures }
+    let fine = end _ _ c.loop-place.invariant _ c.counted-elements.ensures.holds c.loop-place-test.false in
+    record { legal = legal_elements _ fine _ c.counted-elements.ensures.holds; few = few_elements _ fine _ c.counted-elements.ensures.holds }
 
 pub returns : goal.returns
-returns c = (sym (end _ _ c.loop-place.invariant _ c.counted-elements.ensures c.loop-place-test.false), c.counted-elements.ensures)
+returns c = (sym (end _ _ c.loop-place.invariant _ c.counted-elements.ensures.holds c.loop-place-test.false), c.counted-elements.ensures)
