@@ -65,7 +65,7 @@ pub fn lay<T: RowOf>(elements: &[Element], rows: &mut [T::Row], rows_of: &T)
 
 // The place of each element.
 #[derive(Clone, Copy)]
-pub struct Places;
+struct Places;
 
 impl RowOf for Places {
     type Row = Place;

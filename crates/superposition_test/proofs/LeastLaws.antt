@@ -17,7 +17,7 @@ least_from b rows = fold (λ best r. min best r.place.next) b rows
 abbrev pub Attained : List Row → ℕ → Type 0
 Attained rows at = (i : ℕ) × (i < length rows) × ((d : Row) → (get_or rows i d).place.next ≡ at)
 
-least_below_start : (b : ℕ) (rows : List Row) → least_from b rows ≤ b
+pub least_below_start : (b : ℕ) (rows : List Row) → least_from b rows ≤ b
 least_below_start b [] = omega arith
 least_below_start b (r ∷ rows) = omega (arith, least_below_start (min b r.place.next) rows)
 

@@ -1,12 +1,28 @@
 -- What holds between each element and its row, in order. Assumes nothing.
-use Prim.Native.Nat.{ℕ, zero, suc, ◌<◌}
-use mathlib.Core.Path.{◌≡◌, refl}
+use Prim.Native.Nat.{ℕ, zero, suc, ◌*◌, ◌/◌, ◌≤◌, ◌<◌}
+use mathlib.Core.Path.{◌≡◌, refl, ap, ◌∙◌}
 use mathlib.Core.List.{List, [], ◌∷◌, map}
+use native.Mathlib.Nat.{div-eq_of_lt}
 use native.Mathlib.Omega.{arith}
 use lib.ListN.{length, get_or}
 use Rattle.std.specs.List.{AllZip, sum_by}
 use Rattle.std.proofs.lemmas.List.Sums.{sum_by-cons}
+use Rattle.model.specs.declared.elements.Period.{Period}
+use Rattle.model.specs.declared.elements.Period.TheVariants.{Once, Every}
+use Rattle.model.specs.declared.elements.Element.{Element}
 use Rattle.model.specs.Over.{sum_over, Each}
+use Rattle.model.specs.Elements.{most_h}
+use Rattle.model.specs.Demand.{turns}
+use Rattle.theory.specs.Growth.{rise_of}
+use Rattle.places.specs.Dates.{step_of, step_in}
+
+turns_by_step : (q : Period) (h : ℕ) → h ≤ most_h → h / step_of q ≡ turns q h
+turns_by_step Once h l = div-eq_of_lt (omega arith)
+turns_by_step (Every p) h l = refl
+
+-- what an element adds to the slope, by its row's step
+pub rise_by_step : (e : Element) (h x : ℕ) → h ≤ most_h → x ≡ step_in e → e.cost * (h / x) ≡ rise_of h e
+rise_by_step e h x l q = ap (λ y. e.cost * y) (ap (λ y. h / y) q ∙ turns_by_step e.period h l)
 
 module _ {A B : Type 0} where
   -- rows made of their elements

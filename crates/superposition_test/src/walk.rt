@@ -64,10 +64,12 @@ impl RowOf for WalkRows {
             Period::Once => place.next,
             Period::Every(p) => place.next + (self.k - 1) * u64::from(p),
         };
+        // A step of 0, which no legal element has, adds nothing to the slope.
+        let per_hyperperiod = self.h.checked_div(place.step).unwrap_or(0);
         Row {
             place,
             last,
-            rise: place.cost * self.h.checked_div(place.step).unwrap_or(0),
+            rise: place.cost * per_hyperperiod,
         }
     }
 }
