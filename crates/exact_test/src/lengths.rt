@@ -10,7 +10,7 @@ ghost use Rattle.exact_test.specs.Segments.{verdict_of};
 use crate::segments::{Compared, Segment, TICKS, WORDS};
 use model::elements::{PLACES, first_due};
 use model::{Element, LegalSet, Verdict};
-use places::dates::{RowOf, lay};
+use places::dates::{RowOf, lay_rows};
 
 // The next date of each element at the start: the first.
 #[derive(Clone, Copy)]
@@ -34,7 +34,7 @@ fn compare_segments(set: LegalSet, bound: u64) -> Result<Compared, Verdict>
 {
     let mut dates = [0; PLACES];
     let next = &mut dates[..set.elements.len()];
-    lay(set.elements, next, &FirstDate);
+    lay_rows(set.elements, next, &FirstDate);
     let mut segment = Segment {
         due: [0; TICKS],
         marks: [0; WORDS],

@@ -1,19 +1,21 @@
--- Laws of specs/Dates: what a row holds, and one row more that `lay` puts. Assumes nothing.
+-- Laws of specs/Dates: what a row holds, and one row more that is laid. Assumes nothing.
 use Prim.Native.Nat.{ℕ, zero, suc, ◌+◌, ◌≤◌, ◌<◌}
 use mathlib.Core.Path.{◌≡◌, refl, sym, ap, ◌∙◌}
+use mathlib.Core.Bool.{true}
 use mathlib.Core.List.{List, [], ◌∷◌, ◌++◌, map}
 use native.Mathlib.Omega.{arith}
 use native.Mathlib.Numerals.{add-one}
 use lib.ListN.{length, length-map, get_or, set, take, drop}
-use Rattle.std.proofs.Common.{append_assoc}
-use Rattle.std.proofs.lemmas.List.{append-nil, map_more}
+use Rattle.std.proofs.Common.{append_assoc, length-take}
+use Rattle.std.proofs.lemmas.List.{append-nil, map_more, get_or-take}
 use Rattle.std.proofs.Math.Seq.{take-length}
 use lib.Seq.{length-take-le, drop-cons, drop-length, set-append_seam}
 use Rattle.model.specs.declared.elements.Period.{Period}
 use Rattle.model.specs.declared.elements.Period.TheVariants.{Once, Every}
 use Rattle.model.specs.declared.elements.Element.{Element}
+use Rattle.model.proofs.OverLaws.{all_each, each_at}
 use Rattle.model.proofs.ElementLaws.{Within, Runs}
-use Rattle.places.specs.Dates.{most_bound, step_of, laid}
+use Rattle.places.specs.Dates.{most_bound, step_of, OneOf, laid}
 
 -- WHAT A ROW HOLDS
 pub step_within : (q : Period) → Runs q → Within 1 most_bound (step_of q)
@@ -52,6 +54,12 @@ module _ {R : Type 0} (row : Element → R) where
   laid_long (x ∷ s) (r ∷ rows) = ap suc (laid_long s rows)
 
 -- LAYING, row by row
+-- what stands in the first n elements is one of them
+pub one_at : (s : List Element) (n i : ℕ) (d : Element) → i < length (take n s) → OneOf s (get_or (take n s) i d)
+one_at s n i d h test all =
+    let k = length-take n s in
+    rw (get_or-take n s i d (omega (arith, k, h))) (each_at (λ e. test e ≡ true) s i d (omega (arith, k, h)) (all_each s test all))
+
 pub laid_more :
     {A B : Type 0} (g : A → B) (xs : List A) (ys : List B) (i : ℕ) (d : A) → i < length xs → i < length ys →
     set (map g (take i xs) ++ drop i ys) i (g (get_or xs i d)) ≡ map g (take (i + 1) xs) ++ drop (i + 1) ys

@@ -1,7 +1,7 @@
 // The dates of each place, as numbers.
 ghost use Rattle.std.specs.Prelude.{◌≡◌};
 ghost use Rattle.model.specs.declared.elements.Element.{Element};
-ghost use Rattle.places.specs.Dates.{step_of, place_of};
+ghost use Rattle.places.specs.Dates.{step_of, place_of, OneOf};
 ghost use Rattle.places.specs.FunctionContracts.{PlaceOfSays, LaySays};
 
 use model::elements::first_due;
@@ -54,12 +54,26 @@ pub trait RowOf {
 
 // Lays out the elements, a row for each and as many as there are rows; other rows stay.
 #[tactic(auto, unfolding(crate::specs::Dates::laid))]
-pub fn lay<T: RowOf>(elements: &[Element], rows: &mut [T::Row], rows_of: &T)
+pub fn lay_rows<T: RowOf>(elements: &[Element], rows: &mut [T::Row], rows_of: &T)
     ensures { LaySays (T.made rows_of.now) elements.now rows.old rows.new }
 {
     let n = elements.len().min(rows.len());
     for (i, e) in elements[..n].iter().enumerate() {
         rows[i] = rows_of.row_of(*e);
+    }
+}
+
+// The same with a closure, which has to take each of these elements and may take no other.
+#[tactic(auto, unfolding(crate::specs::Dates::laid))]
+pub fn lay<R: Copy, F: Fn(Element) -> R>(elements: &[Element], rows: &mut [R], row_of: F)
+    ghost made: { Element → R }
+    requires ready { (e : Element) → OneOf elements.now e → F.pre row_of e }
+    requires says { (e : Element) (r : R) → F.post row_of e r → r ≡ made e }
+    ensures { LaySays made elements.now rows.old rows.new }
+{
+    let n = rows.len().min(elements.len());
+    for (i, e) in elements[..n].iter().enumerate() {
+        rows[i] = row_of(*e);
     }
 }
 
@@ -81,5 +95,5 @@ impl RowOf for Places {
 pub fn lay_places(elements: &[Element], places: &mut [Place])
     ensures { LaySays place_of elements.now places.old places.new }
 {
-    lay(elements, places, &Places)
+    lay_rows(elements, places, &Places)
 }

@@ -2,3 +2,5 @@
 #![tactic(auto)]
 
 pub mod dates;
+#[cfg(test)]
+mod tests;

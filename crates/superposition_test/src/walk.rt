@@ -9,7 +9,7 @@ ghost use Rattle.superposition_test.specs.Walk.{row_of, least_next, Movable, Mov
 
 use model::elements::PLACES;
 use model::{Element, LegalSet, Period};
-use places::dates::{NONE_LEFT, Place, RowOf, lay, place_of};
+use places::dates::{NONE_LEFT, Place, RowOf, lay_rows, place_of};
 
 // What the walk holds of an element: its place, the last length where its demand is exact, and what it adds to the slope past that.
 #[derive(Clone, Copy)]
@@ -113,7 +113,7 @@ pub(crate) fn walk(set: LegalSet, k: u64, h: u64) -> Result<u64, HeldBack>
 {
     let mut table = [UNUSED; PLACES];
     let rows = &mut table[..set.elements.len()];
-    lay(set.elements, rows, &WalkRows { k, h });
+    lay_rows(set.elements, rows, &WalkRows { k, h });
     let mut before: u64 = 0;
     let mut scaled: u64 = 0;
     let mut slope: u64 = 0;

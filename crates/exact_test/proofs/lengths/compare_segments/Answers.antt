@@ -13,7 +13,7 @@ invariant_of-segment c = none_marked
 pub loop-base-init : goal.loop-base-init
 loop-base-init c =
     let s = c.args.set.elements.now in
-    rw (laid_all f s _ _ c.lay.ensures (search rules), dated_first s) (start c.args.set.legal c.args.set.few c.requires)
+    rw (laid_all f s _ _ c.lay_rows.ensures (search rules), dated_first s) (start c.args.set.legal c.args.set.few c.requires)
 
 pub sweep-requires-clause-sums_fit : goal.sweep-requires-clause-sums_fit
 sweep-requires-clause-sums_fit c = sweep_fits c.loop-base.invariant c.loop-base-test.true c.min-len.ensures c.fill-low.ensures

@@ -8,7 +8,7 @@ use Rattle.superposition_test.proofs.walk.walk.Goals.{After-move_on-moved}
 pub loop-at-init : goal.loop-at-init
 loop-at-init c =
     let s = c.args.set.elements.now in
-    start s _ _ c.args.set.legal c.args.set.few c.requires _ _ (laid_all (row_of c.args.k c.args.h) s _ _ c.lay.ensures (search rules)) c.least-at.ensures
+    start s _ _ c.args.set.legal c.args.set.few c.requires _ _ (laid_all (row_of c.args.k c.args.h) s _ _ c.lay_rows.ensures (search rules)) c.least-at.ensures
 
 pub returns-clause-verdict : goal.returns-clause-verdict
 returns-clause-verdict c = none_left _ _ _ c.loop-at.invariant c.loop-at-test.false
